@@ -1,0 +1,25 @@
+// Open and closed books: two types over one plain struct of rows.
+ghost use mathlib.Core.Path.{_≡_};
+ghost use lib.ListN.{length};
+ghost use denote.Ref.{now};
+use crate::alphabet::Alphabet;
+use crate::rules::Rules;
+use crate::table::PatternTable;
+use conversion::form::StrictForm;
+
+// A book that takes rules. Closing it gives a closed book; no chart is cut from an open one.
+#[derive(Drop)]
+pub struct OpenBook<'p, A: Alphabet> {
+    pub(crate) table: PatternTable<'p, A>,
+    pub(crate) rules: Rules,
+    ghost over: { rules .patterns ≡ length (now (table .patterns)) },
+}
+
+// A book that charts are cut from. It takes no rule.
+#[derive(Drop)]
+pub struct ClosedBook<'p, A: Alphabet> {
+    pub(crate) table: PatternTable<'p, A>,
+    pub(crate) rules: Rules,
+    pub(crate) form: StrictForm,
+    ghost over: { rules .patterns ≡ length (now (table .patterns)) },
+}

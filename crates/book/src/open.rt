@@ -1,0 +1,79 @@
+// The calls of open and closed books.
+ghost use Prim.Native.Nat.{_≤_};
+ghost use mathlib.Core.Path.{_≡_};
+ghost use mathlib.Core.List.{[]};
+ghost use lib.ListN.{length};
+ghost use lib.Dec.{T};
+ghost use denote.Ref.{now};
+ghost use Rattle.conversion.specs.Rows.{written};
+ghost use Rattle.book.specs.Books.{open-held, closed-held};
+ghost use Rattle.book.specs.Fits.{Fits-at};
+ghost use Rattle.book.specs.Offers.{Offered};
+ghost use Rattle.book.specs.Rules.{held};
+use crate::alphabet::Alphabet;
+use crate::books::ClosedBook;
+use crate::books::OpenBook;
+use crate::fault::OfferFault;
+use crate::rules::Rules;
+use crate::table::PatternTable;
+use conversion::form::StrictForm;
+
+impl<'p, A: Alphabet> OpenBook<'p, A> {
+    // A book over a table of patterns, with no rule.
+    pub fn new(table: PatternTable<'p, A>) -> OpenBook<'p, A>
+        ensures none { λ r. ⌜ open-held r ≡ [] ⌝ }
+        ensures table { λ r. ⌜ now (r .table .patterns) ≡ now (table .exit .patterns) ⌝ }
+    {
+        let rules = Rules::none(table.count());
+        OpenBook { table, rules }
+    }
+
+    // Offers a rule: its number, or the refusal.
+    pub fn offer(&mut self, head: u8, items: &[u8], cost: u16) -> Result<usize, OfferFault>
+        ensures says { λ r. ⌜ Offered (length (now (now (self .entry) .table .patterns))) held (written head (now (items .entry)) cost) (now (self .entry) .rules) (now (self .exit) .rules) r ⌝ }
+        ensures table { λ _. ⌜ now (self .exit) .table ≡ now (self .entry) .table ⌝ }
+    {
+        self.rules.offer(head, items, cost)
+    }
+
+    // Ends the open book: a closed book that holds the same rules, with their strict form.
+    pub fn close(self) -> ClosedBook<'p, A>
+        ensures held { λ r. ⌜ closed-held r ≡ open-held (self .exit) ⌝ }
+        ensures table { λ r. ⌜ r .table ≡ self .exit .table ⌝ }
+    {
+        let OpenBook { table, rules } = self;
+        let form = rules.convert();
+        ClosedBook { table, rules, form }
+    }
+}
+
+impl<'p, A: Alphabet> ClosedBook<'p, A> {
+    // The number of symbols, by which a caller sizes a chart's table.
+    pub fn symbols(&self) -> usize
+        ensures is { λ r. ⌜ r ≡ now (self .entry) .form .binarised .symbols ⌝ }
+        ensures least { λ r. ⌜ 64 ≤ r ⌝ }
+        ensures most { λ r. ⌜ r ≤ 128 ⌝ }
+    {
+        self.form.symbols()
+    }
+
+    // The strict form, for charts.
+    pub fn form(&self) -> &StrictForm
+        ensures { λ r. ⌜ now r ≡ now (self .entry) .form ⌝ }
+    {
+        &self.form
+    }
+
+    // The cost of a rule, or 0 where there is none of that number.
+    pub fn cost(&self, number: u8) -> u16 {
+        self.rules.cost(number)
+    }
+
+    // Whether there is a pattern of that number and it fits the event.
+    pub fn fits(&self, number: u8, event: A::Event) -> bool
+        ensures only { λ r. ⌜ (T r → Fits-at (A·Alphabet .fits) (now (now (self .entry) .table .patterns)) number event) ⌝ }
+        ensures always { λ r. ⌜ (Fits-at (A·Alphabet .fits) (now (now (self .entry) .table .patterns)) number event → T r) ⌝ }
+    {
+        self.table.fits(number, event)
+    }
+}

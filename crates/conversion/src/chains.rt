@@ -1,0 +1,84 @@
+// Chosen chains by rounds: round k finds the pairs of symbols whose shortest chain has k steps.
+ghost use Prim.Native.Nat.{ℕ, _≤_, _<_};
+ghost use mathlib.Core.Path.{_≡_};
+ghost use mathlib.Core.List.{[]};
+ghost use lib.ListN.{length, getD, set};
+use crate::chain::Chain;
+use crate::chain::Chains;
+use crate::chain::UnitStep;
+
+impl Chains {
+    fn none() -> Chains {
+        Chains { links: [[Chain::Absent; 128]; 128] }
+    }
+
+    // From each symbol to itself, and nowhere else.
+    fn start() -> Chains {
+        let mut out = Chains::none();
+        for x in 0..128 {
+            out.put(x, x, Chain::Empty);
+        }
+        out
+    }
+
+    // The chosen chain from one symbol to another.
+    pub fn get(&self, from: u8, to: u8) -> Chain
+        ensures { λ r. ⌜ r ≡ getD (getD (now (self .entry) .links) from []) to Chain.Absent ⌝ }
+    {
+        if from < 128 && to < 128 { self.links[from as usize][to as usize] } else { Chain::Absent }
+    }
+
+    fn put(&mut self, from: u8, to: u8, chain: Chain) {
+        if from < 128 && to < 128 {
+            self.links[from as usize][to as usize] = chain;
+        }
+    }
+
+    // Whether a chain leads from one symbol to another.
+    pub fn reaches(&self, from: u8, to: u8) -> bool {
+        !matches!(self.get(from, to), Chain::Absent)
+    }
+
+    // Whether a chain of fewer steps than these leads there.
+    fn within(&self, from: u8, to: u8, steps: u8) -> bool {
+        match self.get(from, to) {
+            Chain::Absent => false,
+            Chain::Empty => steps > 0,
+            Chain::Steps(k, _) => k < steps,
+        }
+    }
+
+    // The chains of so many steps that begin with this step. Whether there was a new one.
+    fn extend(&mut self, step: UnitStep, steps: u8) -> bool {
+        let mut grew = false;
+        for y in 0..128 {
+            if !self.reaches(step.from, y) && self.within(step.to, y, steps) {
+                self.put(step.from, y, Chain::Steps(steps, step));
+                grew = true;
+            }
+        }
+        grew
+    }
+
+    // The chains of so many steps: the first step in the list that begins one begins the chosen one.
+    fn round(&mut self, list: &[UnitStep], steps: u8) -> bool {
+        let mut grew = false;
+        for step in list {
+            if self.extend(*step, steps) {
+                grew = true;
+            }
+        }
+        grew
+    }
+}
+
+// The chosen chains of unit steps. A shortest chain passes no symbol twice, so it has fewer than 128 steps.
+pub fn chains(list: &[UnitStep]) -> Chains {
+    let mut out = Chains::start();
+    for steps in 1..128 {
+        if !out.round(list, steps) {
+            break;
+        }
+    }
+    out
+}

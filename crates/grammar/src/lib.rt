@@ -1,0 +1,1 @@
+//! The definitions of the subject: what productions are. It holds no code that runs.
