@@ -105,7 +105,7 @@ impl Rules {
     }
 
     // The cost of a rule, or 0 where there is none of that number.
-    pub(crate) fn cost(&self, number: u8) -> u16 {
+    pub fn cost(&self, number: u8) -> u16 {
         let at = number as usize;
         if at < self.count { self.rows[at].cost() } else { 0 }
     }

@@ -64,9 +64,11 @@ impl<'p, A: Alphabet> ClosedBook<'p, A> {
         &self.form
     }
 
-    // The cost of a rule, or 0 where there is none of that number.
-    pub fn cost(&self, number: u8) -> u16 {
-        self.rules.cost(number)
+    // The rules held, for charts.
+    pub fn rules(&self) -> &Rules
+        ensures { λ r. ⌜ now r ≡ now (self .entry) .rules ⌝ }
+    {
+        &self.rules
     }
 
     // Whether there is a pattern of that number and it fits the event.

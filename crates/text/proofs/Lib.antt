@@ -1,0 +1,4 @@
+pub mod Items
+pub mod Once
+pub mod Spelled
+pub mod Steps
