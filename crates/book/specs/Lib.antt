@@ -2,3 +2,4 @@ pub mod Fits
 pub mod Rules
 pub mod Books
 pub mod Offers
+pub mod Loads

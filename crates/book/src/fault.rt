@@ -1,4 +1,5 @@
 // Why a call is refused. The numbers of the refusals are given by one definition for each kind of fault.
+use text::fault::LineFault;
 
 // Why a table of patterns is refused.
 #[derive(Clone, Copy)]
@@ -24,4 +25,13 @@ pub enum OfferFault {
     TooManyTails,
     // more than 1,024 strict rules
     TooManyStrictRules,
+}
+
+// Why a load is refused.
+#[derive(Clone, Copy)]
+pub enum LoadFault {
+    // a word or a line is at fault
+    Line(LineFault),
+    // the book refuses the rule of a line; the place of the line's first word
+    Refused(usize),
 }

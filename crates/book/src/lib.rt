@@ -6,5 +6,6 @@ pub mod table;
 pub mod tables;
 pub mod rules;
 pub mod offers;
+pub mod loads;
 pub mod books;
 pub mod open;

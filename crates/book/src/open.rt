@@ -8,11 +8,13 @@ ghost use denote.Ref.{now};
 ghost use Rattle.conversion.specs.Rows.{written};
 ghost use Rattle.book.specs.Books.{open-held, closed-held};
 ghost use Rattle.book.specs.Fits.{Fits-at};
+ghost use Rattle.book.specs.Loads.{Loaded};
 ghost use Rattle.book.specs.Offers.{Offered};
 ghost use Rattle.book.specs.Rules.{held};
 use crate::alphabet::Alphabet;
 use crate::books::ClosedBook;
 use crate::books::OpenBook;
+use crate::fault::LoadFault;
 use crate::fault::OfferFault;
 use crate::rules::Rules;
 use crate::table::PatternTable;
@@ -34,6 +36,14 @@ impl<'p, A: Alphabet> OpenBook<'p, A> {
         ensures table { λ _. ⌜ now (self .exit) .table ≡ now (self .entry) .table ⌝ }
     {
         self.rules.offer(head, items, cost)
+    }
+
+    // Offers the rules of a text in turn, up to the first line that is refused: how many lines were offered, or the refusal.
+    pub fn load(&mut self, text: &[u8]) -> Result<usize, LoadFault>
+        ensures says { λ r. ⌜ Loaded (now (text .entry)) (open-held (now (self .entry))) (open-held (now (self .exit))) r ⌝ }
+        ensures table { λ _. ⌜ now (self .exit) .table ≡ now (self .entry) .table ⌝ }
+    {
+        self.rules.load(text)
     }
 
     // Ends the open book: a closed book that holds the same rules, with their strict form.
