@@ -1,7 +1,7 @@
 // Open and closed books: two types over one plain struct of rows.
 ghost use mathlib.Core.Path.{_≡_};
-ghost use lib.ListN.{length};
 ghost use denote.Ref.{now};
+ghost use Rattle.book.specs.Fits.{pattern-count};
 use crate::alphabet::Alphabet;
 use crate::rules::Rules;
 use crate::table::PatternTable;
@@ -12,7 +12,7 @@ use conversion::form::StrictForm;
 pub struct OpenBook<'p, A: Alphabet> {
     pub(crate) table: PatternTable<'p, A>,
     pub(crate) rules: Rules,
-    ghost over: { rules .patterns ≡ length (now (table .patterns)) },
+    ghost over: { rules .patterns ≡ pattern-count (now (table .patterns)) },
 }
 
 // A book that charts are cut from. It takes no rule.
@@ -21,5 +21,5 @@ pub struct ClosedBook<'p, A: Alphabet> {
     pub(crate) table: PatternTable<'p, A>,
     pub(crate) rules: Rules,
     pub(crate) form: StrictForm,
-    ghost over: { rules .patterns ≡ length (now (table .patterns)) },
+    ghost over: { rules .patterns ≡ pattern-count (now (table .patterns)) },
 }

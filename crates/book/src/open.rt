@@ -2,12 +2,11 @@
 ghost use Prim.Native.Nat.{_≤_};
 ghost use mathlib.Core.Path.{_≡_};
 ghost use mathlib.Core.List.{[]};
-ghost use lib.ListN.{length};
 ghost use lib.Dec.{T};
 ghost use denote.Ref.{now};
 ghost use Rattle.conversion.specs.Rows.{written};
 ghost use Rattle.book.specs.Books.{open-held, closed-held};
-ghost use Rattle.book.specs.Fits.{Fits-at};
+ghost use Rattle.book.specs.Fits.{Fits-at, pattern-count};
 ghost use Rattle.book.specs.Loads.{Loaded};
 ghost use Rattle.book.specs.Offers.{Offered};
 ghost use Rattle.book.specs.Rules.{held};
@@ -32,7 +31,7 @@ impl<'p, A: Alphabet> OpenBook<'p, A> {
 
     // Offers a rule: its number, or the refusal.
     pub fn offer(&mut self, head: u8, items: &[u8], cost: u16) -> Result<usize, OfferFault>
-        ensures says { λ r. ⌜ Offered (length (now (now (self .entry) .table .patterns))) held (written head (now (items .entry)) cost) (now (self .entry) .rules) (now (self .exit) .rules) r ⌝ }
+        ensures says { λ r. ⌜ Offered (pattern-count (now (now (self .entry) .table .patterns))) held (written head (now (items .entry)) cost) (now (self .entry) .rules) (now (self .exit) .rules) r ⌝ }
         ensures table { λ _. ⌜ now (self .exit) .table ≡ now (self .entry) .table ⌝ }
     {
         self.rules.offer(head, items, cost)

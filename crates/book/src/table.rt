@@ -1,12 +1,8 @@
 // A checked table of patterns, only read.
-ghost use Prim.Native.Nat.{_≤_};
-ghost use lib.ListN.{length};
-ghost use denote.Ref.{now};
 use crate::alphabet::Alphabet;
 
-// At most 32 patterns, numbered from 0.
+// Patterns, numbered from 0. A table is made only by a check, which refuses more than 32.
 #[derive(Drop)]
 pub struct PatternTable<'p, A: Alphabet> {
     pub(crate) patterns: &'p [A::Pattern],
-    ghost few: { length (now patterns) ≤ 32 },
 }

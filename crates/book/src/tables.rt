@@ -4,7 +4,7 @@ ghost use mathlib.Core.Path.{_≡_};
 ghost use lib.ListN.{length};
 ghost use lib.Dec.{T};
 ghost use Rattle.std.specs.Results.{Cases};
-ghost use Rattle.book.specs.Fits.{Fits-at};
+ghost use Rattle.book.specs.Fits.{Fits-at, pattern-count};
 use crate::alphabet::Alphabet;
 use crate::fault::TableFault;
 use crate::table::PatternTable;
@@ -31,10 +31,10 @@ impl<'p, A: Alphabet> PatternTable<'p, A> {
 
     // How many patterns there are.
     pub fn count(&self) -> u8
-        ensures is { λ r. ⌜ r ≡ length (now (now (self .entry) .patterns)) ⌝ }
+        ensures is { λ r. ⌜ r ≡ pattern-count (now (now (self .entry) .patterns)) ⌝ }
         ensures few { λ r. ⌜ r ≤ 32 ⌝ }
     {
-        self.patterns.len() as u8
+        if self.patterns.len() > 32 { 32 } else { self.patterns.len() as u8 }
     }
 
     // Whether the table has a pattern of that number and it fits the event.
