@@ -4,9 +4,9 @@ use programs::line::line;
 use std::error::AnyError;
 use std::io::Read;
 
-fn run(rt: &LibcRuntime) -> Result<(), AnyError> {
-    let heap = rt.alloc();
-    let mut input = vec![in heap; 0u8; LIMIT + 1]?;
+// Standard input to its end, or one byte more than the program takes.
+fn read_input(rt: &LibcRuntime) -> Result<Vec<u8>, AnyError> {
+    let mut input = vec![in rt.alloc(); 0u8; LIMIT + 1]?;
     let mut length = 0;
     let mut source = rt.stdin();
     while length <= LIMIT {
@@ -16,7 +16,13 @@ fn run(rt: &LibcRuntime) -> Result<(), AnyError> {
         }
         length += got;
     }
-    let out = line(heap, &input[0..length])?;
+    input.truncate(length);
+    Ok(input)
+}
+
+fn run(rt: &LibcRuntime) -> Result<(), AnyError> {
+    let input = read_input(rt)?;
+    let out = line(rt.alloc(), input.as_slice())?;
     rt.print(out.as_str())?;
     Ok(())
 }
