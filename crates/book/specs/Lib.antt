@@ -1,4 +1,6 @@
+pub mod Faults
 pub mod Fits
+pub mod Tables
 pub mod Rules
 pub mod Books
 pub mod Offers

@@ -7,20 +7,10 @@ use lib.ListN.{length}
 use Rattle.std.specs.declared.result.Result.{Result}
 use Rattle.std.specs.declared.result.Result.the-variants.{Ok, Err}
 use Rattle.text.specs.declared.fault.LineFault.{LineFault}
-use Rattle.text.specs.Faults.{lineFaultNumber, lineFaultPlace}
 use Rattle.grammar.specs.Productions.{Production}
+use Rattle.book.specs.Faults.{load-number, load-place}
 use Rattle.book.specs.declared.fault.LoadFault.{LoadFault}
-use Rattle.book.specs.declared.fault.LoadFault.the-variants.{Line, Refused}
-
--- the number of each refusal of a load
-abbrev pub load-number : LoadFault → ℕ
-load-number (Line f) = lineFaultNumber f
-load-number (Refused at) = 24
-
--- its byte place in the text
-abbrev pub load-place : LoadFault → ℕ
-load-place (Line f) = lineFaultPlace f
-load-place (Refused at) = at
+use Rattle.book.specs.declared.fault.LoadFault.the-variants.{Line}
 
 -- the fault of a line, as the load's
 abbrev pub line-fault : LineFault → LoadFault

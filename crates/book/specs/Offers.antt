@@ -26,16 +26,6 @@ refusal T rules p =
     (cond (leb 64 (length rules)) 5
     (cond (ltb 64 (all-tails (rules ++ (p ∷ [])))) 6 0)))))
 
--- the number of each refusal of an offer
-abbrev pub offer-number : OfferFault → ℕ
-offer-number HeadTooLarge = 1
-offer-number TooManyItems = 2
-offer-number UnknownItem = 3
-offer-number Repeated = 4
-offer-number BookFull = 5
-offer-number TooManyTails = 6
-offer-number TooManyStrictRules = 7
-
 -- the first six refusals decide as `refusal` says; the seventh, too many strict rules, is met only where none of them is
 abbrev pub decided : OfferFault → ℕ
 decided HeadTooLarge = 1

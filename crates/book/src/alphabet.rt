@@ -7,6 +7,7 @@ use crate::kinds::CardPattern;
 
 pub trait Alphabet {
     type Event: Copy;
+
     type Pattern: Copy;
 
     // the pattern fits the event
@@ -23,6 +24,7 @@ pub struct Bytes {}
 
 pub impl Alphabet for Bytes as BytesAlphabet {
     type Event = u8;
+
     type Pattern = u8;
 
     ghost fits = { λ p e. p ≡ e };
@@ -37,11 +39,14 @@ pub struct Cards {}
 
 pub impl Alphabet for Cards as CardsAlphabet {
     type Event = CardEvent;
+
     type Pattern = CardPattern;
 
     ghost fits = { Card-fits };
 
     fn fit(pattern: CardPattern, event: CardEvent) -> bool {
-        pattern.kind == event.kind && pattern.lowest <= event.argument && event.argument <= pattern.highest
+        pattern.kind == event.kind
+            && pattern.lowest <= event.argument
+            && event.argument <= pattern.highest
     }
 }

@@ -1,4 +1,6 @@
 // Why a call is refused. The numbers of the refusals are given by one definition for each kind of fault.
+ghost use mathlib.Core.Path.{_≡_};
+ghost use Rattle.book.specs.Faults.{table-number, offer-number, load-number, load-place};
 use text::fault::LineFault;
 
 // Why a table of patterns is refused.
@@ -34,4 +36,54 @@ pub enum LoadFault {
     Line(LineFault),
     // the book refuses the rule of a line; the place of the line's first word
     Refused(usize),
+}
+
+impl TableFault {
+    // The number of the refusal.
+    pub fn number(self) -> u8
+        ensures { λ r. ⌜ r ≡ table-number self ⌝ }
+    {
+        match self {
+            TableFault::TooManyPatterns => 8,
+        }
+    }
+}
+
+impl OfferFault {
+    // The number of the refusal.
+    pub fn number(self) -> u8
+        ensures { λ r. ⌜ r ≡ offer-number self ⌝ }
+    {
+        match self {
+            OfferFault::HeadTooLarge => 1,
+            OfferFault::TooManyItems => 2,
+            OfferFault::UnknownItem => 3,
+            OfferFault::Repeated => 4,
+            OfferFault::BookFull => 5,
+            OfferFault::TooManyTails => 6,
+            OfferFault::TooManyStrictRules => 7,
+        }
+    }
+}
+
+impl LoadFault {
+    // The number of the refusal.
+    pub fn number(self) -> u8
+        ensures { λ r. ⌜ r ≡ load-number self ⌝ }
+    {
+        match self {
+            LoadFault::Line(fault) => fault.number(),
+            LoadFault::Refused(_) => 24,
+        }
+    }
+
+    // Its byte place in the text.
+    pub fn place(self) -> usize
+        ensures { λ r. ⌜ r ≡ load-place self ⌝ }
+    {
+        match self {
+            LoadFault::Line(fault) => fault.place(),
+            LoadFault::Refused(at) => at,
+        }
+    }
 }

@@ -6,7 +6,7 @@ ghost use lib.ListN.{length};
 ghost use lib.Dec.{leb};
 ghost use Rattle.grammar.specs.Lists.{some-of, same-numbers};
 ghost use Rattle.conversion.specs.Rows.{production-of, written};
-ghost use Rattle.book.specs.Rules.{held};
+ghost use Rattle.book.specs.Rules.{held, cost-of};
 ghost use Rattle.book.specs.Offers.{same-rule, Offered};
 use crate::fault::OfferFault;
 use crate::rules::Rules;
@@ -62,7 +62,11 @@ impl Rules {
         ensures over { λ r. ⌜ r .patterns ≡ patterns ⌝ }
     {
         let rule = Production::empty();
-        Rules { rows: [rule; 64], count: 0, patterns }
+        Rules {
+            rows: [rule; 64],
+            count: 0,
+            patterns,
+        }
     }
 
     // Offers a rule, which is admitted at the end or refused.
@@ -105,8 +109,14 @@ impl Rules {
     }
 
     // The cost of a rule, or 0 where there is none of that number.
-    pub fn cost(&self, number: u8) -> u16 {
+    pub fn cost(&self, number: u8) -> u16
+        ensures { λ r. ⌜ r ≡ cost-of (held (now (self .entry))) number ⌝ }
+    {
         let at = number as usize;
-        if at < self.count { self.rows[at].cost() } else { 0 }
+        if at < self.count {
+            self.rows[at].cost()
+        } else {
+            0
+        }
     }
 }

@@ -1,10 +1,9 @@
 // What is asked of a table of patterns.
-ghost use Prim.Native.Nat.{_<_, _≤_};
+ghost use Prim.Native.Nat.{_≤_};
 ghost use mathlib.Core.Path.{_≡_};
-ghost use lib.ListN.{length};
 ghost use lib.Dec.{T};
-ghost use Rattle.std.specs.Results.{Cases};
 ghost use Rattle.book.specs.Fits.{Fits-at, pattern-count};
+ghost use Rattle.book.specs.Tables.{Checked};
 use crate::alphabet::Alphabet;
 use crate::fault::TableFault;
 use crate::table::PatternTable;
@@ -15,13 +14,17 @@ fn fits_at<A: Alphabet>(patterns: &[A::Pattern], number: u8, event: A::Event) ->
     ensures always { λ r. ⌜ (Fits-at (A·Alphabet .fits) (now (patterns .entry)) number event → T r) ⌝ }
 {
     let at = number as usize;
-    if at < patterns.len() { A::fit(patterns[at], event) } else { false }
+    if at < patterns.len() {
+        A::fit(patterns[at], event)
+    } else {
+        false
+    }
 }
 
 impl<'p, A: Alphabet> PatternTable<'p, A> {
     // The table of these patterns, refused where there are more than 32.
     pub fn check(patterns: &'p [A::Pattern]) -> Result<PatternTable<'p, A>, TableFault>
-        ensures { λ r. ⌜ Cases r (λ t. (length (now (patterns .entry)) ≤ 32) × (now (t .patterns) ≡ now (patterns .entry))) (λ f. (32 < length (now (patterns .entry))) × (f ≡ TableFault.TooManyPatterns)) ⌝ }
+        ensures { λ r. ⌜ Checked (now (patterns .entry)) r ⌝ }
     {
         if patterns.len() > 32 {
             return Err(TableFault::TooManyPatterns);
@@ -34,7 +37,11 @@ impl<'p, A: Alphabet> PatternTable<'p, A> {
         ensures is { λ r. ⌜ r ≡ pattern-count (now (now (self .entry) .patterns)) ⌝ }
         ensures few { λ r. ⌜ r ≤ 32 ⌝ }
     {
-        if self.patterns.len() > 32 { 32 } else { self.patterns.len() as u8 }
+        if self.patterns.len() > 32 {
+            32
+        } else {
+            self.patterns.len() as u8
+        }
     }
 
     // Whether the table has a pattern of that number and it fits the event.

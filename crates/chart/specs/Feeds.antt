@@ -8,16 +8,12 @@ use lib.ListN.{length}
 use Rattle.std.specs.declared.result.Result.{Result}
 use Rattle.std.specs.declared.result.Result.the-variants.{Ok, Err}
 use Rattle.chart.specs.declared.fault.FeedFault.{FeedFault}
-use Rattle.chart.specs.declared.fault.FeedFault.the-variants.{NoRoom}
+use Rattle.chart.specs.Faults.{feed-number}
 use Rattle.chart.specs.Table.{column-place, Same-outside}
 
 -- the number of the refusal that a feed meets where n events are held over a table of m weights, S to a cell; 0 for none
 abbrev pub feed-refusal : ℕ → ℕ → ℕ → ℕ
 feed-refusal S m n = cond (eqb n 256 || ltb m (column-place S (n + 2))) 11 0
-
--- the number of each refusal of a feed
-abbrev pub feed-number : FeedFault → ℕ
-feed-number NoRoom = 11
 
 -- a feed to a chart that held n events: the number of events held then, and no weight outside the column of the new event has
 -- changed; or it is refused, and the table and the number of events are as before

@@ -29,7 +29,11 @@ fn cell_place(symbols: usize, end: usize, start: usize) -> usize
 pub(crate) fn peek<W: Weighing>(weights: &[W::Value], place: usize) -> W::Value
     ensures { λ r. ⌜ r ≡ getD (now (weights .entry)) place (W·Weighing .ops .zero) ⌝ }
 {
-    if place < weights.len() { weights[place] } else { W::zero() }
+    if place < weights.len() {
+        weights[place]
+    } else {
+        W::zero()
+    }
 }
 
 // Writes zero to each weight of a cell.
@@ -43,7 +47,13 @@ fn clear<W: Weighing>(weights: &mut [W::Value], symbols: usize, cell: usize)
 }
 
 // Adds to a symbol's weight in a cell.
-fn add<W: Weighing>(weights: &mut [W::Value], symbols: usize, cell: usize, symbol: u8, more: W::Value)
+fn add<W: Weighing>(
+    weights: &mut [W::Value],
+    symbols: usize,
+    cell: usize,
+    symbol: u8,
+    more: W::Value,
+)
     requires { ⌜ symbols ≤ 128 ⌝ ∗ ⌜ cell + symbols ≤ length (now weights) ⌝ }
     ensures { λ _. ⌜ Same-outside (W·Weighing .ops .zero) cell (cell + symbols) (now (weights .entry)) (now (weights .exit)) ⌝ }
 {
@@ -55,7 +65,15 @@ fn add<W: Weighing>(weights: &mut [W::Value], symbols: usize, cell: usize, symbo
 }
 
 // The cell over one event: the strict pattern rules whose pattern fits it.
-fn one_event<A: Alphabet, W: Weighing>(weights: &mut [W::Value], book: &ClosedBook<A>, list: &[StrictRule], each: &[W::Value], symbols: usize, cell: usize, event: A::Event)
+fn one_event<A: Alphabet, W: Weighing>(
+    weights: &mut [W::Value],
+    book: &ClosedBook<A>,
+    list: &[StrictRule],
+    each: &[W::Value],
+    symbols: usize,
+    cell: usize,
+    event: A::Event,
+)
     requires { ⌜ symbols ≤ 128 ⌝ ∗ ⌜ cell + symbols ≤ length (now weights) ⌝ }
     ensures { λ _. ⌜ Same-outside (W·Weighing .ops .zero) cell (cell + symbols) (now (weights .entry)) (now (weights .exit)) ⌝ }
 {
@@ -69,20 +87,44 @@ fn one_event<A: Alphabet, W: Weighing>(weights: &mut [W::Value], book: &ClosedBo
 }
 
 // One cut of a longer cell: the strict pairs, over the cell of the left part and that of the right part.
-fn cut<W: Weighing>(weights: &mut [W::Value], list: &[StrictRule], each: &[W::Value], symbols: usize, cell: usize, left: usize, right: usize)
+fn cut<W: Weighing>(
+    weights: &mut [W::Value],
+    list: &[StrictRule],
+    each: &[W::Value],
+    symbols: usize,
+    cell: usize,
+    left: usize,
+    right: usize,
+)
     requires { ⌜ symbols ≤ 128 ⌝ ∗ ⌜ cell + symbols ≤ length (now weights) ⌝ ∗ ⌜ left ≤ 10000000 ⌝ ∗ ⌜ right ≤ 10000000 ⌝ }
     ensures { λ _. ⌜ Same-outside (W·Weighing .ops .zero) cell (cell + symbols) (now (weights .entry)) (now (weights .exit)) ⌝ }
 {
     for (i, rule) in list.iter().enumerate() {
         if let Right::Binary(y, z) = rule.right {
-            let parts = W::times(peek::<W>(weights, left + y as usize), peek::<W>(weights, right + z as usize));
-            add::<W>(weights, symbols, cell, rule.symbol, W::times(peek::<W>(each, i), parts));
+            let parts = W::times(
+                peek::<W>(weights, left + y as usize),
+                peek::<W>(weights, right + z as usize),
+            );
+            add::<W>(
+                weights,
+                symbols,
+                cell,
+                rule.symbol,
+                W::times(peek::<W>(each, i), parts),
+            );
         }
     }
 }
 
 // A longer cell: the sum over its cuts into a left and a right part.
-fn longer<W: Weighing>(weights: &mut [W::Value], list: &[StrictRule], each: &[W::Value], symbols: usize, end: usize, start: usize)
+fn longer<W: Weighing>(
+    weights: &mut [W::Value],
+    list: &[StrictRule],
+    each: &[W::Value],
+    symbols: usize,
+    end: usize,
+    start: usize,
+)
     requires { ⌜ symbols ≤ 128 ⌝ ∗ ⌜ start < end ⌝ ∗ ⌜ end ≤ 256 ⌝ ∗ ⌜ column-place symbols (end + 1) ≤ length (now weights) ⌝ }
     ensures { λ _. ⌜ Same-outside (W·Weighing .ops .zero) (cell-place symbols end start) (cell-place symbols end start + symbols) (now (weights .entry)) (now (weights .exit)) ⌝ }
 {
@@ -95,7 +137,15 @@ fn longer<W: Weighing>(weights: &mut [W::Value], list: &[StrictRule], each: &[W:
 }
 
 // The cell of a start in the column of an event.
-fn cell<A: Alphabet, W: Weighing>(weights: &mut [W::Value], book: &ClosedBook<A>, each: &[W::Value], symbols: usize, end: usize, start: usize, event: A::Event)
+fn cell<A: Alphabet, W: Weighing>(
+    weights: &mut [W::Value],
+    book: &ClosedBook<A>,
+    each: &[W::Value],
+    symbols: usize,
+    end: usize,
+    start: usize,
+    event: A::Event,
+)
     requires { ⌜ symbols ≤ 128 ⌝ ∗ ⌜ start < end ⌝ ∗ ⌜ end ≤ 256 ⌝ ∗ ⌜ column-place symbols (end + 1) ≤ length (now weights) ⌝ }
     ensures { λ _. ⌜ Same-outside (W·Weighing .ops .zero) (cell-place symbols end start) (cell-place symbols end start + symbols) (now (weights .entry)) (now (weights .exit)) ⌝ }
 {
@@ -110,7 +160,14 @@ fn cell<A: Alphabet, W: Weighing>(weights: &mut [W::Value], book: &ClosedBook<A>
 }
 
 // The column of an event, from its last start to the first.
-pub(crate) fn column<A: Alphabet, W: Weighing>(weights: &mut [W::Value], book: &ClosedBook<A>, each: &[W::Value], symbols: usize, end: usize, event: A::Event)
+pub(crate) fn column<A: Alphabet, W: Weighing>(
+    weights: &mut [W::Value],
+    book: &ClosedBook<A>,
+    each: &[W::Value],
+    symbols: usize,
+    end: usize,
+    event: A::Event,
+)
     requires { ⌜ symbols ≤ 128 ⌝ ∗ ⌜ 0 < end ⌝ ∗ ⌜ end ≤ 256 ⌝ ∗ ⌜ column-place symbols (end + 1) ≤ length (now weights) ⌝ }
     ensures { λ _. ⌜ Same-outside (W·Weighing .ops .zero) (column-place symbols end) (column-place symbols (end + 1)) (now (weights .entry)) (now (weights .exit)) ⌝ }
 {

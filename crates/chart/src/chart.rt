@@ -5,8 +5,6 @@ ghost use lib.ListN.{length, getD};
 ghost use denote.Ref.{now, name};
 ghost use Rattle.chart.specs.Table.{column-place, Same-outside};
 ghost use Rattle.chart.specs.Feeds.{Fed};
-use book::alphabet::Alphabet;
-use book::books::ClosedBook;
 use crate::cells::column;
 use crate::cells::column_place;
 use crate::cells::peek;
@@ -14,6 +12,8 @@ use crate::fault::FeedFault;
 use crate::held::Held;
 use crate::nullable::nullable_weights;
 use crate::strict::strict_weights;
+use book::alphabet::Alphabet;
+use book::books::ClosedBook;
 use weighing::bank::Bank;
 use weighing::weighing::Weighing;
 
@@ -38,7 +38,13 @@ fn empty_total<A: Alphabet, W: Weighing>(book: &ClosedBook<A>) -> W::Value {
 }
 
 // Works out the weights of the strict rules and fills the column of an event.
-fn fill<A: Alphabet, W: Weighing>(weights: &mut [W::Value], book: &ClosedBook<A>, symbols: usize, end: usize, event: A::Event)
+fn fill<A: Alphabet, W: Weighing>(
+    weights: &mut [W::Value],
+    book: &ClosedBook<A>,
+    symbols: usize,
+    end: usize,
+    event: A::Event,
+)
     requires { ⌜ symbols ≤ 128 ⌝ ∗ ⌜ 0 < end ⌝ ∗ ⌜ end ≤ 256 ⌝ ∗ ⌜ column-place symbols (end + 1) ≤ length (now weights) ⌝ }
     ensures { λ _. ⌜ Same-outside (W·Weighing .ops .zero) (column-place symbols end) (column-place symbols (end + 1)) (now (weights .entry)) (now (weights .exit)) ⌝ }
 {
@@ -54,7 +60,11 @@ impl<'b, 'p, 't, A: Alphabet, W: Weighing> Chart<'b, 'p, 't, A, W> {
         ensures table { λ r. ⌜ now (r .weights) ≡ now (weights .entry) ⌝ }
         ensures same { λ r. ⌜ name (r .weights) ≡ name (weights .entry) ⌝ }
     {
-        Chart { book, weights, held: Held { events: 0 } }
+        Chart {
+            book,
+            weights,
+            held: Held { events: 0 },
+        }
     }
 
     // How many events are held.
@@ -72,7 +82,7 @@ impl<'b, 'p, 't, A: Alphabet, W: Weighing> Chart<'b, 'p, 't, A, W> {
     {
         let book = self.book;
         let symbols = book.symbols();
-        let n = self.held.events;
+        let n = self.held();
         if n >= 256 || self.weights.len() < column_place(symbols, n + 2) {
             return Err(FeedFault::NoRoom);
         }
@@ -85,7 +95,7 @@ impl<'b, 'p, 't, A: Alphabet, W: Weighing> Chart<'b, 'p, 't, A, W> {
     pub fn total(&self) -> W::Value
         ensures { λ r. ⌜ (0 < now (self .entry) .held .events → r ≡ getD (now (now (self .entry) .weights)) (column-place (now (now (self .entry) .book) .form .binarised .symbols) (now (self .entry) .held .events)) (W·Weighing .ops .zero)) ⌝ }
     {
-        let n = self.held.events;
+        let n = self.held();
         if n == 0 {
             return empty_total::<A, W>(self.book);
         }

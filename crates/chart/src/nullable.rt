@@ -9,7 +9,11 @@ use weighing::weighing::Weighing;
 // The weight of a binarised rule: a production's cost counts at its head's rule; a tail's rule and that of a pattern's own
 // symbol weigh one.
 pub(crate) fn rule_weight<W: Weighing>(rules: &Rules, symbol: u8, number: u8) -> W::Value {
-    if symbol < 32 { W::weight(rules.cost(number)) } else { W::one() }
+    if symbol < 32 {
+        W::weight(rules.cost(number))
+    } else {
+        W::one()
+    }
 }
 
 // The weight of what a right side of nullable symbols stands for.
@@ -23,12 +27,25 @@ fn right_weight<W: Weighing, B: Bank<Value = W::Value>>(bank: &B, right: Right) 
 }
 
 // The weight of the derivation of nothing that the chosen rule gives.
-fn brought_weight<W: Weighing, B: Bank<Value = W::Value>>(bank: &B, rules: &Rules, symbol: u8, by: Brought) -> W::Value {
-    W::times(rule_weight::<W>(rules, symbol, by.number), right_weight::<W, B>(bank, by.right))
+fn brought_weight<W: Weighing, B: Bank<Value = W::Value>>(
+    bank: &B,
+    rules: &Rules,
+    symbol: u8,
+    by: Brought,
+) -> W::Value {
+    W::times(
+        rule_weight::<W>(rules, symbol, by.number),
+        right_weight::<W, B>(bank, by.right),
+    )
 }
 
 // The symbols that came in in one round, from those of the rounds before.
-fn round<W: Weighing, B: Bank<Value = W::Value>>(bank: &mut B, rules: &Rules, form: &StrictForm, round: u8) {
+fn round<W: Weighing, B: Bank<Value = W::Value>>(
+    bank: &mut B,
+    rules: &Rules,
+    form: &StrictForm,
+    round: u8,
+) {
     for symbol in 0..128 {
         if let Some(by) = form.brought(symbol) {
             if by.round == round {
@@ -40,7 +57,10 @@ fn round<W: Weighing, B: Bank<Value = W::Value>>(bank: &mut B, rules: &Rules, fo
 }
 
 // The weight of the chosen derivation of nothing for each nullable symbol, and zero for the others.
-pub(crate) fn nullable_weights<W: Weighing, B: Bank<Value = W::Value>>(rules: &Rules, form: &StrictForm) -> B {
+pub(crate) fn nullable_weights<W: Weighing, B: Bank<Value = W::Value>>(
+    rules: &Rules,
+    form: &StrictForm,
+) -> B {
     let mut bank = B::all(W::zero());
     for at in 0..128 {
         round::<W, B>(&mut bank, rules, form, at);

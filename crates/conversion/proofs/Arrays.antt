@@ -26,12 +26,14 @@ outside n rows x y d s (inr h) =
 -- a write of one place keeps the table's shape
 pub square-set : {X : Type 0} (n : ℕ) (rows : List (List X)) (x y : ℕ) (v : X) → x < n → Square n rows → Square n (set rows x (set (getD rows x []) y v))
 square-set n rows x y v h s =
-    let row : List _ = set (getD rows x []) y v in
-    (length-set rows x row ∙ s .0, λ k b.
-        ⊎-elim
-        (λ (e : k ≡ x). ap (λ j. length (getD (set rows x row) j [])) e ∙ ap length (getD-set-same rows x row [] (omega (arith, s .0))) ∙ length-set (getD rows x []) y v ∙ s .1 x h)
-        (λ (e : k ≡ x → ⊥). ap length (getD-set-other rows x k row [] e) ∙ s .1 k b)
-        (cases-eq k x))
+    let row : List _ = set (getD rows x []) y v in (
+      length-set rows x row ∙ s .0,
+      λ k b.
+          ⊎-elim
+          (λ (e : k ≡ x). ap (λ j. length (getD (set rows x row) j [])) e ∙ ap length (getD-set-same rows x row [] (omega (arith, s .0))) ∙ length-set (getD rows x []) y v ∙ s .1 x h)
+          (λ (e : k ≡ x → ⊥). ap length (getD-set-other rows x k row [] e) ∙ s .1 k b)
+          (cases-eq k x),
+    )
 
 -- a table of one value throughout
 pub square-replicate : {X : Type 0} (n : ℕ) (v : X) → Square n (replicate n (replicate n v))

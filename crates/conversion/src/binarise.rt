@@ -11,19 +11,27 @@ use crate::right::Right;
 impl BinarisedRules {
     // No rule, and no tail.
     fn none() -> BinarisedRules {
-        let rule = BinarisedRule { left: 0, number: 0, right: Right::Empty };
-        BinarisedRules { rules: [rule; 160], count: 0, symbols: 64 }
+        let rule = BinarisedRule {
+            left: 0,
+            number: 0,
+            right: Right::Empty,
+        };
+        BinarisedRules {
+            rules: [rule; 160],
+            count: 0,
+            symbols: 64,
+        }
     }
 
     // The rules, in the order of their productions.
-    pub fn list(&self) -> &[BinarisedRule]
+    pub(crate) fn list(&self) -> &[BinarisedRule]
         ensures { λ r. ⌜ now r ≡ take (now (self .entry) .count) (now (self .entry) .rules) ⌝ }
     {
         &self.rules[0..self.count]
     }
 
     // The number of symbols: 64 and the tails.
-    pub fn symbols(&self) -> usize
+    pub(crate) fn symbols(&self) -> usize
         ensures { λ r. ⌜ r ≡ now (self .entry) .symbols ⌝ ∗ ⌜ r ≤ 128 ⌝ ∗ ⌜ 64 ≤ r ⌝ }
     {
         self.symbols
@@ -35,7 +43,11 @@ impl BinarisedRules {
     {
         let at = self.count;
         if at < 160 {
-            self.rules[at] = BinarisedRule { left, number, right };
+            self.rules[at] = BinarisedRule {
+                left,
+                number,
+                right,
+            };
             self.count = at + 1;
         }
     }
@@ -77,11 +89,15 @@ impl BinarisedRules {
 
 // The right side of one item: a head's symbol, or a pattern.
 fn single(item: u8) -> Right {
-    if item < 32 { Right::Unit(item) } else { Right::Terminal(item - 32) }
+    if item < 32 {
+        Right::Unit(item)
+    } else {
+        Right::Terminal(item - 32)
+    }
 }
 
 // The binarised rules of productions, by production and then by place, and after them one rule for each pattern's own symbol.
-pub fn binarise(productions: &[Production], patterns: u8) -> BinarisedRules
+pub(crate) fn binarise(productions: &[Production], patterns: u8) -> BinarisedRules
     requires { ⌜ length (now productions) ≤ 64 ⌝ ∗ ⌜ patterns ≤ 32 ⌝ }
 {
     let mut out = BinarisedRules::none();

@@ -9,7 +9,9 @@ use crate::chain::UnitStep;
 
 impl Chains {
     fn none() -> Chains {
-        Chains { links: [[Chain::Absent; 128]; 128] }
+        Chains {
+            links: [[Chain::Absent; 128]; 128],
+        }
     }
 
     // From each symbol to itself, and nowhere else.
@@ -22,10 +24,14 @@ impl Chains {
     }
 
     // The chosen chain from one symbol to another.
-    pub fn get(&self, from: u8, to: u8) -> Chain
+    pub(crate) fn get(&self, from: u8, to: u8) -> Chain
         ensures { λ r. ⌜ r ≡ getD (getD (now (self .entry) .links) from []) to Chain.Absent ⌝ }
     {
-        if from < 128 && to < 128 { self.links[from as usize][to as usize] } else { Chain::Absent }
+        if from < 128 && to < 128 {
+            self.links[from as usize][to as usize]
+        } else {
+            Chain::Absent
+        }
     }
 
     fn put(&mut self, from: u8, to: u8, chain: Chain) {
@@ -35,7 +41,7 @@ impl Chains {
     }
 
     // Whether a chain leads from one symbol to another.
-    pub fn reaches(&self, from: u8, to: u8) -> bool {
+    pub(crate) fn reaches(&self, from: u8, to: u8) -> bool {
         !matches!(self.get(from, to), Chain::Absent)
     }
 
@@ -73,7 +79,7 @@ impl Chains {
 }
 
 // The chosen chains of unit steps. A shortest chain passes no symbol twice, so it has fewer than 128 steps.
-pub fn chains(list: &[UnitStep]) -> Chains {
+pub(crate) fn chains(list: &[UnitStep]) -> Chains {
     let mut out = Chains::start();
     for steps in 1..128 {
         if !out.round(list, steps) {

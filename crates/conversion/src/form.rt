@@ -1,7 +1,9 @@
 // The strict form of a list of productions.
 ghost use Prim.Native.Nat.{_≤_};
 ghost use mathlib.Core.Path.{_≡_};
-ghost use lib.ListN.{length, take};
+ghost use mathlib.Core.List.{[]};
+ghost use lib.ListN.{length, take, getD};
+ghost use Rattle.std.specs.declared.option.Option.the-variants.{None};
 use crate::binarise::binarise;
 use crate::binarised::BinarisedRules;
 use crate::chain::Chain;
@@ -29,8 +31,17 @@ fn proper(right: Right) -> bool {
 
 impl StrictRules {
     fn none() -> StrictRules {
-        let rule = StrictRule { symbol: 0, end: 0, number: 0, right: Right::Empty };
-        StrictRules { rules: [rule; 1024], count: 0, complete: true }
+        let rule = StrictRule {
+            symbol: 0,
+            end: 0,
+            number: 0,
+            right: Right::Empty,
+        };
+        StrictRules {
+            rules: [rule; 1024],
+            count: 0,
+            complete: true,
+        }
     }
 
     // One rule more at the end, or the note that there was no room for it.
@@ -48,7 +59,12 @@ impl StrictRules {
     fn through(&mut self, symbol: u8, end: u8, rules: &[BinarisedRule]) {
         for rule in rules {
             if rule.left == end && proper(rule.right) {
-                self.push(StrictRule { symbol, end, number: rule.number, right: rule.right });
+                self.push(StrictRule {
+                    symbol,
+                    end,
+                    number: rule.number,
+                    right: rule.right,
+                });
             }
         }
     }
@@ -106,12 +122,16 @@ impl StrictForm {
     }
 
     // What brought a symbol in, if it is nullable.
-    pub fn brought(&self, symbol: u8) -> Option<Brought> {
+    pub fn brought(&self, symbol: u8) -> Option<Brought>
+        ensures { λ r. ⌜ r ≡ getD (now (self .entry) .nullable .brought) symbol None ⌝ }
+    {
         self.nullable.get(symbol)
     }
 
     // The chosen chain from one symbol to another.
-    pub fn chain(&self, from: u8, to: u8) -> Chain {
+    pub fn chain(&self, from: u8, to: u8) -> Chain
+        ensures { λ r. ⌜ r ≡ getD (getD (now (self .entry) .chains .links) from []) to Chain.Absent ⌝ }
+    {
         self.chains.get(from, to)
     }
 }
@@ -125,5 +145,10 @@ pub fn convert(productions: &[Production], patterns: u8) -> StrictForm
     let steps = unit_steps(binarised.list(), &nullable);
     let chains = chains(steps.list());
     let strict = StrictRules::all(binarised.list(), &chains);
-    StrictForm { binarised, nullable, chains, strict }
+    StrictForm {
+        binarised,
+        nullable,
+        chains,
+        strict,
+    }
 }

@@ -11,18 +11,24 @@ use crate::right::Right;
 
 impl Nullable {
     fn none() -> Nullable {
-        Nullable { brought: [None; 128] }
+        Nullable {
+            brought: [None; 128],
+        }
     }
 
     // What brought a symbol in, if anything did.
-    pub fn get(&self, symbol: u8) -> Option<Brought>
+    pub(crate) fn get(&self, symbol: u8) -> Option<Brought>
         ensures { λ r. ⌜ r ≡ getD (now (self .entry) .brought) symbol None ⌝ }
     {
-        if symbol < 128 { self.brought[symbol as usize] } else { None }
+        if symbol < 128 {
+            self.brought[symbol as usize]
+        } else {
+            None
+        }
     }
 
     // Whether the symbol derives nothing.
-    pub fn holds(&self, symbol: u8) -> bool
+    pub(crate) fn holds(&self, symbol: u8) -> bool
         ensures { λ r. ⌜ r ≡ isSome (getD (now (self .entry) .brought) symbol None) ⌝ }
     {
         self.get(symbol).is_some()
@@ -59,7 +65,14 @@ impl Nullable {
         let mut grew = false;
         for rule in rules {
             if !self.holds(rule.left) && self.ready(rule.right, round) {
-                self.put(rule.left, Brought { round, number: rule.number, right: rule.right });
+                self.put(
+                    rule.left,
+                    Brought {
+                        round,
+                        number: rule.number,
+                        right: rule.right,
+                    },
+                );
                 grew = true;
             }
         }
@@ -68,7 +81,7 @@ impl Nullable {
 }
 
 // The nullable symbols of binarised rules. Every round but the last brings a symbol in, so 128 rounds are enough.
-pub fn nullable(rules: &[BinarisedRule]) -> Nullable {
+pub(crate) fn nullable(rules: &[BinarisedRule]) -> Nullable {
     let mut out = Nullable::none();
     for round in 0..128 {
         if !out.round(rules, round) {

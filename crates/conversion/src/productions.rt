@@ -2,7 +2,7 @@
 ghost use Prim.Native.Nat.{ℕ, _≤_, _<_};
 ghost use mathlib.Core.Path.{_≡_};
 ghost use mathlib.Core.Bool.{_&&_};
-ghost use mathlib.Core.List.{map};
+ghost use mathlib.Core.List.{[], map};
 ghost use lib.ListN.{length, take};
 ghost use lib.Dec.{eqb};
 ghost use Rattle.std.specs.Options.{Cases as BySome};
@@ -24,8 +24,15 @@ fn eight(items: &[u8]) -> [u8; 8]
 
 impl Production {
     // The production of head 0 with nothing on its right side, at no cost.
-    pub fn empty() -> Production {
-        Production { head: 0, len: 0, items: [0; 8], cost: 0 }
+    pub fn empty() -> Production
+        ensures { λ r. ⌜ production-of r ≡ written 0 [] 0 ⌝ }
+    {
+        Production {
+            head: 0,
+            len: 0,
+            items: [0; 8],
+            cost: 0,
+        }
     }
 
     // The row of a production, or nothing where it has more than eight items.
@@ -35,7 +42,12 @@ impl Production {
         if items.len() > 8 {
             return None;
         }
-        Some(Production { head, len: items.len() as u8, items: eight(items), cost })
+        Some(Production {
+            head,
+            len: items.len() as u8,
+            items: eight(items),
+            cost,
+        })
     }
 
     pub fn head(&self) -> u8
@@ -61,7 +73,11 @@ impl Production {
         ensures is { λ r. ⌜ r ≡ tails (production-of (now (self .entry)) .right) ⌝ }
         ensures few { λ r. ⌜ r ≤ 6 ⌝ }
     {
-        if self.len < 2 { 0 } else { self.len as usize - 2 }
+        if self.len < 2 {
+            0
+        } else {
+            self.len as usize - 2
+        }
     }
 }
 

@@ -11,12 +11,20 @@ use crate::right::Right;
 
 impl UnitSteps {
     fn none() -> UnitSteps {
-        let step = UnitStep { from: 0, number: 0, dropped: Dropped::Nothing, to: 0 };
-        UnitSteps { steps: [step; 256], count: 0 }
+        let step = UnitStep {
+            from: 0,
+            number: 0,
+            dropped: Dropped::Nothing,
+            to: 0,
+        };
+        UnitSteps {
+            steps: [step; 256],
+            count: 0,
+        }
     }
 
     // The steps, in the order of their rules.
-    pub fn list(&self) -> &[UnitStep]
+    pub(crate) fn list(&self) -> &[UnitStep]
         ensures { λ r. ⌜ now r ≡ take (now (self .entry) .count) (now (self .entry) .steps) ⌝ }
     {
         &self.steps[0..self.count]
@@ -37,13 +45,28 @@ impl UnitSteps {
         let number = rule.number;
         match rule.right {
             Right::Empty => {}
-            Right::Unit(y) => self.push(UnitStep { from, number, dropped: Dropped::Nothing, to: y }),
+            Right::Unit(y) => self.push(UnitStep {
+                from,
+                number,
+                dropped: Dropped::Nothing,
+                to: y,
+            }),
             Right::Binary(y, z) => {
                 if nullable.holds(z) {
-                    self.push(UnitStep { from, number, dropped: Dropped::Right(z), to: y });
+                    self.push(UnitStep {
+                        from,
+                        number,
+                        dropped: Dropped::Right(z),
+                        to: y,
+                    });
                 }
                 if nullable.holds(y) {
-                    self.push(UnitStep { from, number, dropped: Dropped::Left(y), to: z });
+                    self.push(UnitStep {
+                        from,
+                        number,
+                        dropped: Dropped::Left(y),
+                        to: z,
+                    });
                 }
             }
             Right::Terminal(_) => {}
@@ -52,7 +75,7 @@ impl UnitSteps {
 }
 
 // The unit steps of binarised rules.
-pub fn unit_steps(rules: &[BinarisedRule], nullable: &Nullable) -> UnitSteps {
+pub(crate) fn unit_steps(rules: &[BinarisedRule], nullable: &Nullable) -> UnitSteps {
     let mut out = UnitSteps::none();
     for rule in rules {
         out.rule(*rule, nullable);

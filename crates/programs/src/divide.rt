@@ -11,15 +11,21 @@ pub struct Parts<'i> {
 }
 
 // The input before and after its first line that is % alone; without such a line all of it is rule text.
-pub fn divide(input: &[u8]) -> Parts<'_> {
+pub(crate) fn divide(input: &[u8]) -> Parts<'_> {
     let mut from = 0;
     while from < input.len() {
         let end = line_end(input, from);
         if end == from + 1 && input[from] == b'%' {
             let after = if end < input.len() { end + 1 } else { end };
-            return Parts { rules: &input[0..from], traces: &input[after..] };
+            return Parts {
+                rules: &input[0..from],
+                traces: &input[after..],
+            };
         }
         from = end + 1;
     }
-    Parts { rules: input, traces: &[] }
+    Parts {
+        rules: input,
+        traces: &[],
+    }
 }

@@ -1,4 +1,4 @@
 //! The programs as functions from their input to their output.
-pub mod divide;
-pub mod traces;
+mod divide;
 pub mod line;
+mod traces;

@@ -1,16 +1,20 @@
 // The line program: rule text and traces in, a line of totals for each trace out.
+ghost use Prim.Native.Nat.{_<_};
+ghost use mathlib.Core.Path.{_≡_};
+ghost use lib.ListN.{length};
+ghost use lib.Chars.{codes};
+ghost use Rattle.std.specs.Of.String.{string-bytes};
+ghost use Rattle.std.specs.Vec.{made};
+use crate::divide::Parts;
+use crate::divide::divide;
+use crate::traces::Tables;
 use book::alphabet::Bytes;
 use book::alphabet::BytesAlphabet;
 use book::books::ClosedBook;
 use book::books::OpenBook;
-use book::fault::LoadFault;
 use book::table::PatternTable;
-use crate::divide::Parts;
-use crate::divide::divide;
-use crate::traces::Tables;
 use std::alloc::AllocError;
 use std::alloc::Global;
-use text::fault::LineFault;
 use text::words::line_end;
 
 // The longest input that is read.
@@ -19,19 +23,13 @@ pub const LIMIT: usize = 32_768;
 // The patterns: the small letters.
 static LETTERS: [u8; 26] = *b"abcdefghijklmnopqrstuvwxyz";
 
-// The number and the byte place of a refused load.
-fn refusal(fault: LoadFault) -> (u8, usize) {
-    match fault {
-        LoadFault::Line(LineFault::Unknown(at)) => (20, at),
-        LoadFault::Line(LineFault::OverLimit(at)) => (21, at),
-        LoadFault::Line(LineFault::OutOfPlace(at)) => (22, at),
-        LoadFault::Line(LineFault::TooShort(at)) => (23, at),
-        LoadFault::Refused(at) => (24, at),
-    }
-}
-
 // The line for one trace.
-fn trace_line(heap: Global, book: &ClosedBook<Bytes>, tables: &mut Tables, trace: &[u8]) -> Result<String, AllocError> {
+fn trace_line(
+    heap: Global,
+    book: &ClosedBook<Bytes>,
+    tables: &mut Tables,
+    trace: &[u8],
+) -> Result<String, AllocError> {
     let length = trace.len();
     match tables.totals(book, trace) {
         Ok(totals) => {
@@ -40,12 +38,19 @@ fn trace_line(heap: Global, book: &ClosedBook<Bytes>, tables: &mut Tables, trace
             let least = totals.least;
             format!(heap, "{length} {verdict} {count} {least}\n")
         }
-        Err(_) => format!(heap, "{length} refused 11\n"),
+        Err(fault) => {
+            let number = fault.number();
+            format!(heap, "{length} refused {number}\n")
+        }
     }
 }
 
 // The lines for all traces.
-fn trace_lines(heap: Global, book: &ClosedBook<Bytes>, traces: &[u8]) -> Result<String, AllocError> {
+fn trace_lines(
+    heap: Global,
+    book: &ClosedBook<Bytes>,
+    traces: &[u8],
+) -> Result<String, AllocError> {
     let mut out = String::new(heap);
     let mut tables = Tables::new(heap)?;
     let mut from = 0;
@@ -61,7 +66,8 @@ fn trace_lines(heap: Global, book: &ClosedBook<Bytes>, traces: &[u8]) -> Result<
 // The output for a book that was loaded.
 fn loaded(heap: Global, mut book: OpenBook<Bytes>, parts: Parts) -> Result<String, AllocError> {
     if let Err(fault) = book.load(parts.rules) {
-        let (number, place) = refusal(fault);
+        let number = fault.number();
+        let place = fault.place();
         return format!(heap, "refused {number} {place}\n");
     }
     let closed = book.close();
@@ -69,7 +75,9 @@ fn loaded(heap: Global, mut book: OpenBook<Bytes>, parts: Parts) -> Result<Strin
 }
 
 // The output for an input of any bytes.
-pub fn line(heap: Global, input: &[u8]) -> Result<String, AllocError> {
+pub fn line(heap: Global, input: &[u8]) -> Result<String, AllocError>
+    ensures { λ r. ⌜ (32768 < length (now (input .entry)) → made r (λ s. string-bytes s ≡ codes "refused 25\n")) ⌝ }
+{
     if input.len() > LIMIT {
         return format!(heap, "refused 25\n");
     }

@@ -35,7 +35,11 @@ pub struct Totals {
 }
 
 // The total of a trace.
-fn total<W: Weighing>(book: &ClosedBook<Bytes>, weights: &mut [W::Value], trace: &[u8]) -> Result<W::Value, FeedFault> {
+fn total<W: Weighing>(
+    book: &ClosedBook<Bytes>,
+    weights: &mut [W::Value],
+    trace: &[u8],
+) -> Result<W::Value, FeedFault> {
     let mut chart: Chart<Bytes, W> = Chart::cut(book, weights);
     for event in trace {
         chart.feed(*event)?;
@@ -44,18 +48,30 @@ fn total<W: Weighing>(book: &ClosedBook<Bytes>, weights: &mut [W::Value], trace:
 }
 
 impl Tables {
-    pub fn new(heap: Global) -> Result<Tables, AllocError> {
+    pub(crate) fn new(heap: Global) -> Result<Tables, AllocError> {
         let verdicts = vec![in heap; false; WEIGHTS]?;
         let counts = vec![in heap; Capped::of(0); WEIGHTS]?;
         let costs = vec![in heap; Capped::of(0); WEIGHTS]?;
-        Ok(Tables { verdicts, counts, costs })
+        Ok(Tables {
+            verdicts,
+            counts,
+            costs,
+        })
     }
 
     // The totals of a trace, or the refusal of an event.
-    pub fn totals(&mut self, book: &ClosedBook<Bytes>, trace: &[u8]) -> Result<Totals, FeedFault> {
+    pub(crate) fn totals(
+        &mut self,
+        book: &ClosedBook<Bytes>,
+        trace: &[u8],
+    ) -> Result<Totals, FeedFault> {
         let verdict = total::<YesNo>(book, self.verdicts.as_mut_slice(), trace)?;
         let count = total::<Count>(book, self.counts.as_mut_slice(), trace)?;
         let least = total::<LeastCost>(book, self.costs.as_mut_slice(), trace)?;
-        Ok(Totals { verdict, count: count.value(), least: least.value() })
+        Ok(Totals {
+            verdict,
+            count: count.value(),
+            least: least.value(),
+        })
     }
 }

@@ -11,6 +11,7 @@ pub struct YesNo {}
 
 pub impl Weighing for YesNo as YesNoWeighing {
     type Value = bool;
+
     type Values = Bank128<bool>;
 
     ghost ops = { yesNo };
@@ -41,6 +42,7 @@ pub struct Count {}
 
 pub impl Weighing for Count as CountWeighing {
     type Value = Capped;
+
     type Values = Bank128<Capped>;
 
     ghost ops = { counts };
@@ -73,6 +75,7 @@ pub struct LeastCost {}
 
 pub impl Weighing for LeastCost as LeastCostWeighing {
     type Value = Capped;
+
     type Values = Bank128<Capped>;
 
     ghost ops = { leastCosts };

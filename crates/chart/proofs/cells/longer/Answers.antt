@@ -8,8 +8,13 @@ cut-requires g c κs =
     let s = c .args .symbols in
     let e = c .args .end in
     let i = c .args .start in
-    let k = c .loop-middle .middle in
-    (c .pre .0,
-      (omega (arith, c .cell-place-cell .ensures, cell-within s e i (c .pre .1 .0)),
-        (omega (arith, c .cell-place-left .ensures, place-small s k i (c .pre .0) (omega arith) (omega arith)),
-          omega (arith, c .cell-place-right .ensures, place-small s e k (c .pre .0) (omega arith) (omega arith)))))
+    let k = c .loop-middle .middle in (
+      c .pre .0,
+      (
+        omega (arith, c .cell-place-cell .ensures, cell-within s e i (c .pre .1 .0)),
+        (
+          omega (arith, c .cell-place-left .ensures, place-small s k i (c .pre .0) (omega arith) (omega arith)),
+          omega (arith, c .cell-place-right .ensures, place-small s e k (c .pre .0) (omega arith) (omega arith)),
+        ),
+      ),
+    )

@@ -14,7 +14,7 @@ loop-p-again c =
     let i = c .loop-p .p-index in
     let p = c .p-item .result in
     let is : tails (production-of (getD (c .args .productions .now) i p) .right) ≡ c .tails-sum .result =
-        ap (λ q. tails (production-of q .right)) (sym (c .p-item .is)) ∙ sym (c .tails-sum .ensures .is) in
+    ap (λ q. tails (production-of q .right)) (sym (c .p-item .is)) ∙ sym (c .tails-sum .ensures .is) in
     (omega (arith, c .loop-p .inv .0, is, tails-more production-of (c .args .productions .now) i p (c .loop-p-test .taken)), omega (arith, c .loop-p .inv .1, c .tails-sum .ensures .few))
 
 pub returns : need.returns

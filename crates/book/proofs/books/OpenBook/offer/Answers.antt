@@ -9,5 +9,5 @@ returns g c =
     let b = c .args .self .now in
     record {
       says = subst (λ T. Offered T held (written (c .args .head) (c .args .items .now) (c .args .cost)) (b .rules) (c .offer .last .self) (c .offer .result)) (b .over) (c .offer .ensures .says);
-      table = refl;
+      table = refl {a = b .table};
     }

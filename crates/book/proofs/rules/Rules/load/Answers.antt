@@ -12,7 +12,6 @@ use Rattle.book.specs.Loads.{Line-loaded}
 use Rattle.book.proofs.rules.Rules.load.Needs as need
 use Rattle.book.proofs.rules.Rules.load.Needs.{then-offered, else-offered}
 
-
 -- one line with a rule
 more-push : (text : List ℕ) (was mid is : List Production) (n : ℕ) → ((more : List Production) × (mid ≡ was ++ more) × (n ≡ length more))
     → Line-loaded text mid is (Ok true) → (more : List Production) × (is ≡ was ++ more) × (n + 1 ≡ length more)
@@ -34,7 +33,16 @@ loop-from-again c =
     let over = h .over ∙ c .loop-from .inv .2 in
     let P : ℕ → Type 0 = λ n. (more : List Production) × (is ≡ was ++ more) × (n ≡ length more) in
     elim (c .if-offered .came) [
-      then-offered w ↦ (omega (arith, w .lines-is, c .line-end-end .ensures .later, c .loop-from .inv .0), omega (arith, c .line-end-end .ensures .inside), over,
-        subst P (sym (w .lines-is)) (more-push text was mid is (c .loop-from .lines) (c .loop-from .inv .3) (subst (λ b. Line-loaded text mid is (Ok b)) (w .if-offered .taken) (h .says))))
-    | else-offered w ↦ (omega (arith, w .lines-is, c .line-end-end .ensures .later, c .loop-from .inv .0), omega (arith, c .line-end-end .ensures .inside), over,
-        subst P (sym (w .lines-is)) (more-same text was mid is (c .loop-from .lines) (c .loop-from .inv .3) (subst (λ b. Line-loaded text mid is (Ok b)) (w .if-offered .left) (h .says)))) ]
+      | then-offered w ↦ (
+        omega (arith, w .lines-is, c .line-end-end .ensures .later, c .loop-from .inv .0),
+        omega (arith, c .line-end-end .ensures .inside),
+        over,
+        subst P (sym (w .lines-is)) (more-push text was mid is (c .loop-from .lines) (c .loop-from .inv .3) (subst (λ b. Line-loaded text mid is (Ok b)) (w .if-offered .taken) (h .says))),
+      )
+      | else-offered w ↦ (
+        omega (arith, w .lines-is, c .line-end-end .ensures .later, c .loop-from .inv .0),
+        omega (arith, c .line-end-end .ensures .inside),
+        over,
+        subst P (sym (w .lines-is)) (more-same text was mid is (c .loop-from .lines) (c .loop-from .inv .3) (subst (λ b. Line-loaded text mid is (Ok b)) (w .if-offered .left) (h .says))),
+      )
+    ]

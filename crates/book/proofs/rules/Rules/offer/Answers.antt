@@ -13,13 +13,9 @@ use Rattle.conversion.specs.Rows.{production-of, written}
 use Rattle.book.specs.declared.rules.Rules.{Rules}
 use Rattle.book.specs.Rules.{held}
 use Rattle.book.specs.Offers.{same-rule}
-use Rattle.book.proofs.Held.{push-held, length-held}
+use Rattle.book.proofs.Held.{push-held, many}
 use Rattle.book.proofs.Refused.{Past-four, meets-five, meets-six, meets-none}
 use Rattle.book.proofs.rules.Rules.offer.Needs as need
-
--- how many rules are held
-many : (b : Rules) → length (held b) ≡ b .count
-many b = length-held production-of (b .rows) (b .count) (omega (arith, b .few, b .sized))
 
 -- the tests of the first four refusals failed
 past : (b : Rules) (p : Written) (row : Production) → production-of row ≡ p → p .head ≤ 31 → length (p .right) ≤ 8
