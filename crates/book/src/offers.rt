@@ -15,6 +15,15 @@ use conversion::form::convert;
 use conversion::production::Production;
 use conversion::productions::all_tails;
 
+// Heads are below this.
+const HEADS: u8 = 32;
+
+// So many rules a book holds at most.
+const RULES: usize = 64;
+
+// So many tails its rules take at most.
+const TAILS: usize = 64;
+
 // Whether two right sides are the same.
 fn same_items(a: &[u8], b: &[u8]) -> bool
     ensures { λ r. ⌜ r ≡ same-numbers (now (a .entry)) (now (b .entry)) ⌝ }
@@ -74,7 +83,7 @@ impl Rules {
         ensures says { λ r. ⌜ Offered (now (self .entry) .patterns) held (written head (now (items .entry)) cost) (now (self .entry)) (now (self .exit)) r ⌝ }
         ensures over { λ _. ⌜ now (self .exit) .patterns ≡ now (self .entry) .patterns ⌝ }
     {
-        if head > 31 {
+        if head >= HEADS {
             return Err(OfferFault::HeadTooLarge);
         }
         let Some(rule) = Production::new(head, items, cost) else {
@@ -87,12 +96,12 @@ impl Rules {
         if some_same(&rule, &self.rows[0..at]) {
             return Err(OfferFault::Repeated);
         }
-        if at >= 64 {
+        if at >= RULES {
             return Err(OfferFault::BookFull);
         }
         let mut rows = self.rows;
         rows[at] = rule;
-        if all_tails(&rows[0..at + 1]) > 64 {
+        if all_tails(&rows[0..at + 1]) > TAILS {
             return Err(OfferFault::TooManyTails);
         }
         if !convert(&rows[0..at + 1], self.patterns).complete() {

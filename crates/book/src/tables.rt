@@ -8,6 +8,9 @@ use crate::alphabet::Alphabet;
 use crate::fault::TableFault;
 use crate::table::PatternTable;
 
+// So many patterns a table has at most.
+const PATTERNS: usize = 32;
+
 // Whether there is a pattern of that number and it fits the event.
 fn fits_at<A: Alphabet>(patterns: &[A::Pattern], number: u8, event: A::Event) -> bool
     ensures only { λ r. ⌜ (T r → Fits-at (A·Alphabet .fits) (now (patterns .entry)) number event) ⌝ }
@@ -26,7 +29,7 @@ impl<'p, A: Alphabet> PatternTable<'p, A> {
     pub fn check(patterns: &'p [A::Pattern]) -> Result<PatternTable<'p, A>, TableFault>
         ensures { λ r. ⌜ Checked (now (patterns .entry)) r ⌝ }
     {
-        if patterns.len() > 32 {
+        if patterns.len() > PATTERNS {
             return Err(TableFault::TooManyPatterns);
         }
         Ok(PatternTable { patterns })
@@ -37,7 +40,7 @@ impl<'p, A: Alphabet> PatternTable<'p, A> {
         ensures is { λ r. ⌜ r ≡ pattern-count (now (now (self .entry) .patterns)) ⌝ }
         ensures few { λ r. ⌜ r ≤ 32 ⌝ }
     {
-        if self.patterns.len() > 32 {
+        if self.patterns.len() > PATTERNS {
             32
         } else {
             self.patterns.len() as u8

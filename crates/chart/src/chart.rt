@@ -17,6 +17,9 @@ use book::books::ClosedBook;
 use weighing::bank::Bank;
 use weighing::weighing::Weighing;
 
+// So many events a chart holds at most.
+const EVENTS: usize = 256;
+
 // The events themselves are not stored: the table holds the weight of each symbol over each part of them.
 #[derive(Drop)]
 pub struct Chart<'b, 'p, 't, A: Alphabet, W: Weighing> {
@@ -83,7 +86,7 @@ impl<'b, 'p, 't, A: Alphabet, W: Weighing> Chart<'b, 'p, 't, A, W> {
         let book = self.book;
         let symbols = book.symbols();
         let n = self.held();
-        if n >= 256 || self.weights.len() < column_place(symbols, n + 2) {
+        if n >= EVENTS || self.weights.len() < column_place(symbols, n + 2) {
             return Err(FeedFault::NoRoom);
         }
         fill::<A, W>(self.weights, book, symbols, n + 1, event);

@@ -38,33 +38,33 @@ tails-pushed b p row t is h e =
     let n : b .count + 1 - 0 ≡ b .count + 1 = omega arith in
     e ∙ ap (λ k. all-tails (map production-of (take k (set (b .rows) (b .count) row)))) n ∙ ap all-tails (pushed b p row is h)
 
-pub returns-then-at-ge64 : need.returns-then-at-ge64
-returns-then-at-ge64 c =
+pub returns-then-at-ge-RULES : need.returns-then-at-ge-RULES
+returns-then-at-ge-RULES c =
     let b = c .args .self .now in
     let p = written (c .args .head) (c .args .items .now) (c .args .cost) in
-    let four = past b p (c .in-Some .rule) (c .in-Some .ensures tt .0) (c .if-head-gt31 .left) (c .in-Some .ensures tt .1) (c .if-some-unknown .ensures tt) (c .if-some-same .ensures tt) in
+    let four = past b p (c .in-Some .rule) (c .in-Some .ensures tt .0) (omega (arith, c .if-head-ge-HEADS .left)) (c .in-Some .ensures tt .1) (c .if-some-unknown .ensures tt) (c .if-some-same .ensures tt) in
     record { says = (meets-five (b .patterns) (held b) p four (omega (arith, many b)), refl); over = refl }
 
-pub returns-then-all-tails-gt64 : need.returns-then-all-tails-gt64
-returns-then-all-tails-gt64 c =
+pub returns-then-all-tails-gt-TAILS : need.returns-then-all-tails-gt-TAILS
+returns-then-all-tails-gt-TAILS c =
     let b = c .args .self .now in
     let p = written (c .args .head) (c .args .items .now) (c .args .cost) in
-    let four = past b p (c .in-Some .rule) (c .in-Some .ensures tt .0) (c .if-head-gt31 .left) (c .in-Some .ensures tt .1) (c .if-some-unknown .ensures tt) (c .if-some-same .ensures tt) in
-    let t = tails-pushed b p (c .in-Some .rule) (c .all-tails .result) (c .in-Some .ensures tt .0) (c .if-at-ge64 .left) (c .all-tails .ensures) in
+    let four = past b p (c .in-Some .rule) (c .in-Some .ensures tt .0) (omega (arith, c .if-head-ge-HEADS .left)) (c .in-Some .ensures tt .1) (c .if-some-unknown .ensures tt) (c .if-some-same .ensures tt) in
+    let t = tails-pushed b p (c .in-Some .rule) (c .all-tails .result) (c .in-Some .ensures tt .0) (c .if-at-ge-RULES .left) (c .all-tails .ensures) in
     record { says = (meets-six (b .patterns) (held b) p four (omega (arith, many b)) (omega (arith, t)), refl); over = refl }
 
 pub returns-then-not-complete : need.returns-then-not-complete
 returns-then-not-complete c =
     let b = c .args .self .now in
     let p = written (c .args .head) (c .args .items .now) (c .args .cost) in
-    let four = past b p (c .in-Some .rule) (c .in-Some .ensures tt .0) (c .if-head-gt31 .left) (c .in-Some .ensures tt .1) (c .if-some-unknown .ensures tt) (c .if-some-same .ensures tt) in
-    let t = tails-pushed b p (c .in-Some .rule) (c .all-tails .result) (c .in-Some .ensures tt .0) (c .if-at-ge64 .left) (c .all-tails .ensures) in
+    let four = past b p (c .in-Some .rule) (c .in-Some .ensures tt .0) (omega (arith, c .if-head-ge-HEADS .left)) (c .in-Some .ensures tt .1) (c .if-some-unknown .ensures tt) (c .if-some-same .ensures tt) in
+    let t = tails-pushed b p (c .in-Some .rule) (c .all-tails .result) (c .in-Some .ensures tt .0) (c .if-at-ge-RULES .left) (c .all-tails .ensures) in
     record { says = (meets-none (b .patterns) (held b) p four (omega (arith, many b)) (omega (arith, t)), refl); over = refl }
 
 pub returns : need.returns
 returns c =
     let b = c .args .self .now in
     let p = written (c .args .head) (c .args .items .now) (c .args .cost) in
-    let four = past b p (c .in-Some .rule) (c .in-Some .ensures tt .0) (c .if-head-gt31 .left) (c .in-Some .ensures tt .1) (c .if-some-unknown .ensures tt) (c .if-some-same .ensures tt) in
-    let t = tails-pushed b p (c .in-Some .rule) (c .all-tails .result) (c .in-Some .ensures tt .0) (c .if-at-ge64 .left) (c .all-tails .ensures) in
-    record { says = (meets-none (b .patterns) (held b) p four (omega (arith, many b)) (omega (arith, t)), sym (many b), pushed b p (c .in-Some .rule) (c .in-Some .ensures tt .0) (c .if-at-ge64 .left)); over = refl }
+    let four = past b p (c .in-Some .rule) (c .in-Some .ensures tt .0) (omega (arith, c .if-head-ge-HEADS .left)) (c .in-Some .ensures tt .1) (c .if-some-unknown .ensures tt) (c .if-some-same .ensures tt) in
+    let t = tails-pushed b p (c .in-Some .rule) (c .all-tails .result) (c .in-Some .ensures tt .0) (c .if-at-ge-RULES .left) (c .all-tails .ensures) in
+    record { says = (meets-none (b .patterns) (held b) p four (omega (arith, many b)) (omega (arith, t)), omega (arith, many b), pushed b p (c .in-Some .rule) (c .in-Some .ensures tt .0) (c .if-at-ge-RULES .left)); over = refl }
