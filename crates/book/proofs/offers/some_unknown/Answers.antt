@@ -19,14 +19,14 @@ returns-then-item-patterns c =
     let m = 32 + c .args .patterns in
     let xs = c .args .items .now in
     let i = c .loop-item .item-index in
-    sym (some-here (leb m) xs i 0 (c .loop-item-test .taken) (at-least m (getD xs i 0) (c .if-item-patterns .taken))) ∙ c .loop-item .inv
+    sym (some-here (leb m) xs i 0 (c .loop-item-test .taken) (at-least m (getD xs i 0) (omega (arith, c .if-item-patterns .taken)))) ∙ c .loop-item .inv
 
 pub loop-item-again : need.loop-item-again
 loop-item-again c =
     let m = 32 + c .args .patterns in
     let xs = c .args .items .now in
     let i = c .loop-item .item-index in
-    sym (some-later (leb m) xs i 0 (c .loop-item-test .taken) (less m (getD xs i 0) (c .if-item-patterns .left))) ∙ c .loop-item .inv
+    sym (some-later (leb m) xs i 0 (c .loop-item-test .taken) (less m (getD xs i 0) (omega (arith, c .if-item-patterns .left)))) ∙ c .loop-item .inv
 
 pub returns : need.returns
 returns c = sym (some-none (leb (32 + c .args .patterns)) (c .args .items .now) (c .loop-item .item-index) (c .loop-item-test .left)) ∙ c .loop-item .inv

@@ -20,7 +20,7 @@ held-cost b n d h =
     ∙ ap (λ (p : Production). p .cost) (getD-take (b .count) (b .rows) n d h)
 
 pub returns-then-at-self : need.returns-then-at-self
-returns-then-at-self c = c .cost .ensures ∙ sym (held-cost (c .args .self .now) (c .args .number) (c .index-self-at .result) (c .if-at-self .taken))
+returns-then-at-self c = c .cost .ensures ∙ sym (held-cost (c .args .self .now) (c .args .number) (c .index-self-at .result) (omega (arith, c .if-at-self .taken)))
 
 pub returns-else-at-self : need.returns-else-at-self
 returns-else-at-self c =
