@@ -1,2 +1,5 @@
 pub mod Held
 pub mod Refused
+pub mod NoRules
+pub mod Props
+pub mod Closed

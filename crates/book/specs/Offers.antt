@@ -8,15 +8,22 @@ use lib.ListN.{length}
 use Rattle.std.specs.declared.result.Result.{Result}
 use Rattle.std.specs.declared.result.Result.the-variants.{Ok, Err}
 use Rattle.grammar.specs.Lists.{some-of, same-numbers}
-use Rattle.grammar.specs.Productions.{Production, all-tails}
+use Rattle.grammar.specs.Productions.{Production, Book, all-tails}
+use Rattle.grammar.specs.Binarise.{binarised}
+use Rattle.grammar.specs.Strict.{strict-rules}
 use Rattle.book.specs.declared.fault.OfferFault.{OfferFault}
-use Rattle.book.specs.declared.fault.OfferFault.the-variants.{HeadTooLarge, TooManyItems, UnknownItem, Repeated, BookFull, TooManyTails, TooManyStrictRules}
+use Rattle.book.specs.Faults.{offer-number}
 
 -- the two have the same head and right side
 abbrev pub same-rule : Production → Production → Bool
 same-rule p q = eqb (p .head) (q .head) && same-numbers (p .right) (q .right)
 
--- the number of the first of these refusals that rule p meets, offered to a book of T patterns that holds these rules; 0 for none
+-- the book of these rules over T patterns
+abbrev pub book : ℕ → List Production → Book
+book T rules = record { productions = rules; patterns = T }
+
+-- the number of the first refusal that rule p meets, offered to a book of T patterns that holds these rules; 0 for none. The last
+-- two count with the new rule in
 abbrev pub refusal : ℕ → List Production → Production → ℕ
 refusal T rules p =
     cond (ltb 31 (p .head)) 1
@@ -24,20 +31,11 @@ refusal T rules p =
     (cond (some-of (leb (32 + T)) (p .right)) 3
     (cond (some-of (same-rule p) rules) 4
     (cond (leb 64 (length rules)) 5
-    (cond (ltb 64 (all-tails (rules ++ (p ∷ [])))) 6 0)))))
-
--- the first six refusals decide as `refusal` says; the seventh, too many strict rules, is met only where none of them is
-abbrev pub decided : OfferFault → ℕ
-decided HeadTooLarge = 1
-decided TooManyItems = 2
-decided UnknownItem = 3
-decided Repeated = 4
-decided BookFull = 5
-decided TooManyTails = 6
-decided TooManyStrictRules = 0
+    (cond (ltb 64 (all-tails (rules ++ (p ∷ [])))) 6
+    (cond (ltb 1024 (length (strict-rules (binarised (book T (rules ++ (p ∷ []))))))) 7 0))))))
 
 -- rule p was offered to a book of T patterns that held the rules `was`: it is admitted at the end, and its number is answered,
 -- or it is refused, and the book, all of it, is as before
 abbrev pub Offered : {B : Type 0} → ℕ → (B → List Production) → Production → B → B → Result ℕ OfferFault → Type 0
 Offered T held p was is (Ok n) = (refusal T (held was) p ≡ 0) × (n ≡ length (held was)) × (held is ≡ held was ++ (p ∷ []))
-Offered T held p was is (Err f) = (refusal T (held was) p ≡ decided f) × (is ≡ was)
+Offered T held p was is (Err f) = (refusal T (held was) p ≡ offer-number f) × (is ≡ was)

@@ -2,10 +2,12 @@
 ghost use Prim.Native.Nat.{_+_, _≤_, _<_};
 ghost use mathlib.Core.Path.{_≡_};
 ghost use mathlib.Core.List.{[], map};
-ghost use lib.ListN.{length};
+ghost use lib.ListN.{length, take};
 ghost use lib.Dec.{leb};
 ghost use Rattle.grammar.specs.Lists.{some-of, same-numbers};
 ghost use Rattle.conversion.specs.Rows.{production-of, written};
+ghost use Rattle.conversion.specs.Binarised.{rows-book};
+ghost use Rattle.conversion.specs.Forms.{Form-of};
 ghost use Rattle.book.specs.Rules.{held, cost-of};
 ghost use Rattle.book.specs.Offers.{same-rule, Offered};
 use crate::fault::OfferFault;
@@ -113,7 +115,9 @@ impl Rules {
     }
 
     // The strict form of the rules held.
-    pub(crate) fn convert(&self) -> StrictForm {
+    pub(crate) fn convert(&self) -> StrictForm
+        ensures { λ r. ⌜ Form-of (rows-book (take (now (self .entry) .count) (now (self .entry) .rows)) (now (self .entry) .patterns)) r ⌝ }
+    {
         convert(&self.rows[0..self.count], self.patterns)
     }
 

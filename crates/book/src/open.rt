@@ -4,8 +4,12 @@ ghost use mathlib.Core.Path.{_≡_};
 ghost use mathlib.Core.List.{[]};
 ghost use lib.Dec.{T};
 ghost use denote.Ref.{now};
-ghost use Rattle.conversion.specs.Rows.{written};
-ghost use Rattle.book.specs.Books.{open-held, closed-held};
+ghost use lib.ListN.{length};
+ghost use Rattle.conversion.specs.Rows.{production-of, written};
+ghost use Rattle.book.specs.Books.{open-held, closed-held, closed-book, closed-strict, Strict-rules-are, At};
+ghost use Rattle.grammar.specs.Binarise.{binarised};
+ghost use Rattle.grammar.specs.Strict.{strict-rules};
+ghost use Rattle.conversion.specs.Views.{strict-rule-of};
 ghost use Rattle.book.specs.Fits.{Fits-at, pattern-count};
 ghost use Rattle.book.specs.Loads.{Loaded};
 ghost use Rattle.book.specs.Offers.{Offered};
@@ -18,6 +22,8 @@ use crate::fault::OfferFault;
 use crate::rules::Rules;
 use crate::table::PatternTable;
 use conversion::form::StrictForm;
+use conversion::production::Production;
+use conversion::strict::StrictRule;
 
 impl<'p, A: Alphabet> OpenBook<'p, A> {
     // A book over a table of patterns, with no rule.
@@ -48,6 +54,7 @@ impl<'p, A: Alphabet> OpenBook<'p, A> {
     // Ends the open book: a closed book that holds the same rules, with their strict form.
     pub fn close(self) -> ClosedBook<'p, A>
         ensures held { λ r. ⌜ closed-held r ≡ open-held (self .exit) ⌝ }
+        ensures strict { λ r. ⌜ Strict-rules-are A·Event (closed-book r) (closed-strict r) ⌝ }
         ensures table { λ r. ⌜ r .table ≡ self .exit .table ⌝ }
     {
         let OpenBook { table, rules } = self;
@@ -60,10 +67,48 @@ impl<'p, A: Alphabet> ClosedBook<'p, A> {
     // The number of symbols, by which a caller sizes a chart's table.
     pub fn symbols(&self) -> usize
         ensures is { λ r. ⌜ r ≡ now (self .entry) .form .binarised .symbols ⌝ }
+        ensures means { λ r. ⌜ r ≡ binarised (closed-book (now (self .entry))) .symbols ⌝ }
         ensures least { λ r. ⌜ 64 ≤ r ⌝ }
         ensures most { λ r. ⌜ r ≤ 128 ⌝ }
     {
         self.form.symbols()
+    }
+
+    // How many rules are held.
+    pub fn rule_count(&self) -> usize
+        ensures { λ r. ⌜ r ≡ length (closed-held (now (self .entry))) ⌝ }
+    {
+        self.rules.count
+    }
+
+    // The rule of that number, if there is one.
+    pub fn rule(&self, number: usize) -> Option<Production>
+        ensures { λ r. ⌜ At production-of (closed-held (now (self .entry))) number r ⌝ }
+    {
+        if number < self.rule_count() {
+            Some(self.rules.rows[number])
+        } else {
+            None
+        }
+    }
+
+    // How many strict rules there are.
+    pub fn strict_count(&self) -> usize
+        ensures { λ r. ⌜ r ≡ length (strict-rules (binarised (closed-book (now (self .entry))))) ⌝ }
+    {
+        self.form.strict().len()
+    }
+
+    // The strict rule in that place of their order, if there is one.
+    pub fn strict_rule(&self, place: usize) -> Option<StrictRule>
+        ensures { λ r. ⌜ At strict-rule-of (strict-rules (binarised (closed-book (now (self .entry))))) place r ⌝ }
+    {
+        let list = self.form.strict();
+        if place < list.len() {
+            Some(list[place])
+        } else {
+            None
+        }
     }
 
     // The strict form, for charts.

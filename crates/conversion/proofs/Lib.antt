@@ -1,2 +1,13 @@
 pub mod Arrays
+pub mod Bringing
+pub mod Divided
+pub mod Each
+pub mod Firsts
+pub mod Found
+pub mod Joined
+pub mod Linking
+pub mod Pushes
+pub mod Reaching
+pub mod Stepping
 pub mod Tails
+pub mod Walking

@@ -1,8 +1,12 @@
 // Binarised rules from productions.
-ghost use Prim.Native.Nat.{ℕ, _≤_, _<_};
+ghost use Prim.Native.Nat.{_≤_, _<_};
 ghost use mathlib.Core.Path.{_≡_};
-ghost use mathlib.Core.List.{List};
+ghost use mathlib.Core.List.{[], map};
 ghost use lib.ListN.{length, take};
+ghost use Rattle.grammar.specs.Productions.{all-tails};
+ghost use Rattle.grammar.specs.Binarise.{binarised-rules, binarised};
+ghost use Rattle.conversion.specs.Rows.{production-of};
+ghost use Rattle.conversion.specs.Binarised.{rows-book, rules-held, Pushed, Tailed, Room, Divided, Single};
 use crate::binarised::BinarisedRules;
 use crate::production::Production;
 use crate::right::BinarisedRule;
@@ -10,7 +14,9 @@ use crate::right::Right;
 
 impl BinarisedRules {
     // No rule, and no tail.
-    fn none() -> BinarisedRules {
+    fn none() -> BinarisedRules
+        ensures { λ r. ⌜ rules-held r ≡ [] ⌝ ∗ ⌜ r .symbols ≡ 64 ⌝ }
+    {
         let rule = BinarisedRule {
             left: 0,
             number: 0,
@@ -39,32 +45,33 @@ impl BinarisedRules {
 
     // One rule more at the end.
     fn push(&mut self, left: u8, number: u8, right: Right)
-        ensures { λ _. ⌜ now (self .exit) .symbols ≡ now (self .entry) .symbols ⌝ }
+        requires { ⌜ now self .count < 160 ⌝ }
+        ensures { λ _. ⌜ Pushed (now (self .entry)) (now (self .exit)) left number right ⌝ }
     {
         let at = self.count;
-        if at < 160 {
-            self.rules[at] = BinarisedRule {
-                left,
-                number,
-                right,
-            };
-            self.count = at + 1;
-        }
+        self.rules[at] = BinarisedRule {
+            left,
+            number,
+            right,
+        };
+        self.count = at + 1;
     }
 
     // The next tail.
-    fn tail(&mut self) -> u8 {
+    fn tail(&mut self) -> u8
+        requires { ⌜ now self .symbols < 128 ⌝ }
+        ensures { λ r. ⌜ Tailed (now (self .entry)) (now (self .exit)) r ⌝ }
+    {
         let tail = self.symbols;
-        if tail < 128 {
-            self.symbols = tail + 1;
-        }
+        self.symbols = tail + 1;
         tail as u8
     }
 
     // The rules of a right side of two items or more: each pair is an item and the tail that stands for the items after it, the
     // last one the last two items.
     fn pairs(&mut self, head: u8, number: u8, items: &[u8])
-        requires { ⌜ 2 ≤ length (now items) ⌝ }
+        requires { ⌜ 2 ≤ length (now items) ⌝ ∗ ⌜ Room (now self) (now items) ⌝ }
+        ensures { λ _. ⌜ Divided (now (self .entry)) (now (self .exit)) head number (now (items .entry)) ⌝ }
     {
         let last = items.len() - 2;
         let mut left = head;
@@ -77,7 +84,10 @@ impl BinarisedRules {
     }
 
     // The rules of one production.
-    fn production(&mut self, number: u8, production: &Production) {
+    fn production(&mut self, number: u8, production: &Production)
+        requires { ⌜ Room (now self) (production-of (now production) .right) ⌝ }
+        ensures { λ _. ⌜ Divided (now (self .entry)) (now (self .exit)) (production-of (now (production .entry)) .head) number (production-of (now (production .entry)) .right) ⌝ }
+    {
         let items = production.right();
         match items {
             [] => self.push(production.head(), number, Right::Empty),
@@ -88,7 +98,9 @@ impl BinarisedRules {
 }
 
 // The right side of one item: a head's symbol, or a pattern.
-fn single(item: u8) -> Right {
+fn single(item: u8) -> Right
+    ensures { λ r. ⌜ Single item r ⌝ }
+{
     if item < 32 {
         Right::Unit(item)
     } else {
@@ -98,7 +110,11 @@ fn single(item: u8) -> Right {
 
 // The binarised rules of productions, by production and then by place, and after them one rule for each pattern's own symbol.
 pub(crate) fn binarise(productions: &[Production], patterns: u8) -> BinarisedRules
-    requires { ⌜ length (now productions) ≤ 64 ⌝ ∗ ⌜ patterns ≤ 32 ⌝ }
+    requires few { ⌜ length (now productions) ≤ 64 ⌝ }
+    requires patterns { ⌜ patterns ≤ 32 ⌝ }
+    requires tails { ⌜ all-tails (map production-of (now productions)) ≤ 64 ⌝ }
+    ensures rules { λ r. ⌜ rules-held r ≡ binarised-rules (rows-book (now (productions .entry)) patterns) ⌝ }
+    ensures symbols { λ r. ⌜ r .symbols ≡ binarised (rows-book (now (productions .entry)) patterns) .symbols ⌝ }
 {
     let mut out = BinarisedRules::none();
     for (n, production) in productions.iter().enumerate() {

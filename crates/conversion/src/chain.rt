@@ -21,13 +21,13 @@ pub struct UnitStep {
     pub to: u8,
 }
 
-// At most 128 binarised rules have steps, and each at most two.
+// At most 160 binarised rules, each with at most two steps.
 #[derive(Drop)]
 pub struct UnitSteps {
-    pub(crate) steps: [UnitStep; 256],
+    pub(crate) steps: [UnitStep; 320],
     pub(crate) count: usize,
-    ghost sized: { length steps ≡ 256 },
-    ghost few: { count ≤ 256 },
+    ghost sized: { length steps ≡ 320 },
+    ghost few: { count ≤ 320 },
 }
 
 // The chosen chain from one symbol to another (of the fewest steps; its first step the lowest that begins such a chain), by

@@ -1,8 +1,13 @@
 // The strict form of a list of productions.
 ghost use Prim.Native.Nat.{_≤_};
 ghost use mathlib.Core.Path.{_≡_};
-ghost use mathlib.Core.List.{[]};
-ghost use lib.ListN.{length, take, getD};
+ghost use mathlib.Core.List.{[], _∷_};
+ghost use lib.ListN.{take, getD};
+ghost use Rattle.grammar.specs.Productions.{Sound};
+ghost use Rattle.conversion.specs.Binarised.{rows-book};
+ghost use Rattle.conversion.specs.Forms.{Form-of};
+ghost use Rattle.conversion.specs.Views.{strict-rule-of};
+ghost use Rattle.conversion.specs.Found.{proper-right, Holds, Appends, by-end, by-ends, Strict-in};
 ghost use Rattle.std.specs.declared.option.Option.the-variants.{None};
 use crate::binarise::binarise;
 use crate::binarised::BinarisedRules;
@@ -20,7 +25,9 @@ use crate::strict::StrictRule;
 use crate::strict::StrictRules;
 
 // Whether a right side stands in a strict rule: a pair or a pattern.
-fn proper(right: Right) -> bool {
+fn proper(right: Right) -> bool
+    ensures { λ r. ⌜ r ≡ proper-right right ⌝ }
+{
     match right {
         Right::Empty => false,
         Right::Unit(_) => false,
@@ -30,7 +37,9 @@ fn proper(right: Right) -> bool {
 }
 
 impl StrictRules {
-    fn none() -> StrictRules {
+    fn none() -> StrictRules
+        ensures { λ r. ⌜ Holds [] r ⌝ }
+    {
         let rule = StrictRule {
             symbol: 0,
             end: 0,
@@ -45,7 +54,9 @@ impl StrictRules {
     }
 
     // One rule more at the end, or the note that there was no room for it.
-    fn push(&mut self, rule: StrictRule) {
+    fn push(&mut self, rule: StrictRule)
+        ensures { λ _. ⌜ Appends (now (self .entry)) (now (self .exit)) (strict-rule-of rule ∷ []) ⌝ }
+    {
         let at = self.count;
         if at < 1024 {
             self.rules[at] = rule;
@@ -56,7 +67,9 @@ impl StrictRules {
     }
 
     // The strict rules of a symbol by the rules of the symbol that its chain leads to.
-    fn through(&mut self, symbol: u8, end: u8, rules: &[BinarisedRule]) {
+    fn through(&mut self, symbol: u8, end: u8, rules: &[BinarisedRule])
+        ensures { λ _. ⌜ Appends (now (self .entry)) (now (self .exit)) (by-end (now (rules .entry)) symbol end) ⌝ }
+    {
         for rule in rules {
             if rule.left == end && proper(rule.right) {
                 self.push(StrictRule {
@@ -70,7 +83,9 @@ impl StrictRules {
     }
 
     // The strict rules of a symbol.
-    fn of(&mut self, symbol: u8, rules: &[BinarisedRule], chains: &Chains) {
+    fn of(&mut self, symbol: u8, rules: &[BinarisedRule], chains: &Chains)
+        ensures { λ _. ⌜ Appends (now (self .entry)) (now (self .exit)) (by-ends (now (rules .entry)) (now (chains .entry)) symbol 128) ⌝ }
+    {
         for end in 0..128 {
             if chains.reaches(symbol, end) {
                 self.through(symbol, end, rules);
@@ -79,7 +94,9 @@ impl StrictRules {
     }
 
     // The strict rules, by symbol, then by the end of the chain, then by number.
-    fn all(rules: &[BinarisedRule], chains: &Chains) -> StrictRules {
+    fn all(rules: &[BinarisedRule], chains: &Chains) -> StrictRules
+        ensures { λ r. ⌜ Strict-in (now (rules .entry)) (now (chains .entry)) r ⌝ }
+    {
         let mut out = StrictRules::none();
         for symbol in 0..128 {
             out.of(symbol, rules, chains);
@@ -138,7 +155,8 @@ impl StrictForm {
 
 // The strict form of productions over so many patterns.
 pub fn convert(productions: &[Production], patterns: u8) -> StrictForm
-    requires { ⌜ length (now productions) ≤ 64 ⌝ ∗ ⌜ patterns ≤ 32 ⌝ }
+    requires { ⌜ Sound (rows-book (now productions) patterns) ⌝ }
+    ensures { λ r. ⌜ Form-of (rows-book (now (productions .entry)) patterns) r ⌝ }
 {
     let binarised = binarise(productions, patterns);
     let nullable = nullable(binarised.list());

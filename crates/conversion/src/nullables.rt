@@ -1,16 +1,23 @@
 // Nullable symbols by rounds: a round looks only at what was held before it.
-ghost use Prim.Native.Nat.{ℕ, _≤_, _<_};
+ghost use Prim.Native.Nat.{ℕ, suc, _≤_, _<_};
 ghost use mathlib.Core.Path.{_≡_};
-ghost use lib.ListN.{length, getD, set};
+ghost use mathlib.Core.Bool.{false};
+ghost use lib.ListN.{getD, replicate, set};
 ghost use Rattle.std.specs.declared.option.Option.the-variants.{Some, None};
 ghost use Rattle.std.specs.Options.{isSome};
+ghost use Rattle.grammar.specs.Nullable.{ready as made-of};
+ghost use Rattle.grammar.specs.Binarised.{Bounded};
+ghost use Rattle.conversion.specs.Held.{sooner, After-rounds, Nullables};
+ghost use Rattle.conversion.specs.Views.{right-side-of, binarised-of};
 use crate::nullable::Brought;
 use crate::nullable::Nullable;
 use crate::right::BinarisedRule;
 use crate::right::Right;
 
 impl Nullable {
-    fn none() -> Nullable {
+    fn none() -> Nullable
+        ensures { λ r. ⌜ r .brought ≡ replicate 128 None ⌝ }
+    {
         Nullable {
             brought: [None; 128],
         }
@@ -35,7 +42,9 @@ impl Nullable {
     }
 
     // Whether an earlier round brought the symbol in.
-    fn before(&self, symbol: u8, round: u8) -> bool {
+    fn before(&self, symbol: u8, round: u8) -> bool
+        ensures { λ r. ⌜ r ≡ sooner round (getD (now (self .entry) .brought) symbol None) ⌝ }
+    {
         match self.get(symbol) {
             Some(b) => b.round < round,
             None => false,
@@ -43,7 +52,9 @@ impl Nullable {
     }
 
     // Whether a right side is made of symbols of earlier rounds alone.
-    fn ready(&self, right: Right, round: u8) -> bool {
+    fn ready(&self, right: Right, round: u8) -> bool
+        ensures { λ r. ⌜ r ≡ made-of (λ y. sooner round (getD (now (self .entry) .brought) y None)) (right-side-of right) ⌝ }
+    {
         match right {
             Right::Empty => true,
             Right::Unit(y) => self.before(y, round),
@@ -61,10 +72,13 @@ impl Nullable {
     }
 
     // One round: each symbol not yet held comes in by its first rule that is ready. Whether any came in.
-    fn round(&mut self, rules: &[BinarisedRule], round: u8) -> bool {
+    fn round(&mut self, rules: &[BinarisedRule], round: u8) -> bool
+        ensures more { λ r. ⌜ ((S : ℕ) → S ≤ 128 → Bounded (binarised-of (now (rules .entry)) S) → After-rounds (binarised-of (now (rules .entry)) S) round (now (self .entry)) → After-rounds (binarised-of (now (rules .entry)) S) (suc round) (now (self .exit))) ⌝ }
+        ensures rest { λ r. ⌜ (r ≡ false → now (self .exit) .brought ≡ now (self .entry) .brought) ⌝ }
+    {
         let mut grew = false;
         for rule in rules {
-            if !self.holds(rule.left) && self.ready(rule.right, round) {
+            if !self.holds(rule.left) & self.ready(rule.right, round) {
                 self.put(
                     rule.left,
                     Brought {
@@ -81,7 +95,9 @@ impl Nullable {
 }
 
 // The nullable symbols of binarised rules. Every round but the last brings a symbol in, so 128 rounds are enough.
-pub(crate) fn nullable(rules: &[BinarisedRule]) -> Nullable {
+pub(crate) fn nullable(rules: &[BinarisedRule]) -> Nullable
+    ensures { λ r. ⌜ ((S : ℕ) → S ≤ 128 → Bounded (binarised-of (now (rules .entry)) S) → Nullables (binarised-of (now (rules .entry)) S) r) ⌝ }
+{
     let mut out = Nullable::none();
     for round in 0..128 {
         if !out.round(rules, round) {

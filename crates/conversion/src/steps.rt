@@ -1,7 +1,15 @@
 // Unit steps: from a symbol to another by a rule of one symbol, or by a pair whose other symbol is nullable.
-ghost use Prim.Native.Nat.{ℕ, _≤_, _<_};
+ghost use Prim.Native.Nat.{ℕ, _+_, _≤_, _<_};
+ghost use mathlib.Core.Bool.{cond};
+ghost use mathlib.Core.List.{[], _∷_, _++_};
 ghost use mathlib.Core.Path.{_≡_};
-ghost use lib.ListN.{length, take};
+ghost use lib.ListN.{length, take, getD};
+ghost use Rattle.std.specs.Options.{isSome};
+ghost use Rattle.std.specs.declared.option.Option.the-variants.{None};
+ghost use Rattle.grammar.specs.Chains.{steps-by};
+ghost use Rattle.conversion.specs.Held.{Nullables};
+ghost use Rattle.conversion.specs.Linked.{all-steps, steps-of};
+ghost use Rattle.conversion.specs.Views.{right-side-of, binarised-of, step-of};
 use crate::chain::Dropped;
 use crate::chain::UnitStep;
 use crate::chain::UnitSteps;
@@ -10,7 +18,9 @@ use crate::right::BinarisedRule;
 use crate::right::Right;
 
 impl UnitSteps {
-    fn none() -> UnitSteps {
+    fn none() -> UnitSteps
+        ensures { λ r. ⌜ r .count ≡ 0 ⌝ }
+    {
         let step = UnitStep {
             from: 0,
             number: 0,
@@ -18,7 +28,7 @@ impl UnitSteps {
             to: 0,
         };
         UnitSteps {
-            steps: [step; 256],
+            steps: [step; 320],
             count: 0,
         }
     }
@@ -31,16 +41,33 @@ impl UnitSteps {
     }
 
     // One step more at the end.
-    fn push(&mut self, step: UnitStep) {
+    fn push(&mut self, step: UnitStep)
+        requires { ⌜ now self .count < 320 ⌝ }
+        ensures more { λ _. ⌜ steps-of (now (self .exit)) ≡ steps-of (now (self .entry)) ++ (step-of step ∷ []) ⌝ }
+        ensures one { λ _. ⌜ now (self .exit) .count ≡ now (self .entry) .count + 1 ⌝ }
+    {
         let at = self.count;
-        if at < 256 {
-            self.steps[at] = step;
-            self.count = at + 1;
+        self.steps[at] = step;
+        self.count = at + 1;
+    }
+
+    // One step more, where the symbol that it drops is nullable.
+    fn push_if(&mut self, nullable: bool, step: UnitStep)
+        requires { ⌜ now self .count < 320 ⌝ }
+        ensures more { λ _. ⌜ steps-of (now (self .exit)) ≡ steps-of (now (self .entry)) ++ cond nullable (step-of step ∷ []) [] ⌝ }
+        ensures few { λ _. ⌜ now (self .exit) .count ≤ now (self .entry) .count + 1 ⌝ }
+    {
+        if nullable {
+            self.push(step);
         }
     }
 
     // The steps of one rule: of a pair the left symbol kept comes before the right kept.
-    fn rule(&mut self, rule: BinarisedRule, nullable: &Nullable) {
+    fn rule(&mut self, rule: BinarisedRule, nullable: &Nullable)
+        requires { ⌜ now self .count < 319 ⌝ }
+        ensures more { λ _. ⌜ steps-of (now (self .exit)) ≡ steps-of (now (self .entry)) ++ steps-by (λ x. isSome (getD (now (nullable .entry) .brought) x None)) (rule .left) (rule .number) (right-side-of (rule .right)) ⌝ }
+        ensures few { λ _. ⌜ now (self .exit) .count ≤ now (self .entry) .count + 2 ⌝ }
+    {
         let from = rule.left;
         let number = rule.number;
         match rule.right {
@@ -52,22 +79,20 @@ impl UnitSteps {
                 to: y,
             }),
             Right::Binary(y, z) => {
-                if nullable.holds(z) {
-                    self.push(UnitStep {
-                        from,
-                        number,
-                        dropped: Dropped::Right(z),
-                        to: y,
-                    });
-                }
-                if nullable.holds(y) {
-                    self.push(UnitStep {
-                        from,
-                        number,
-                        dropped: Dropped::Left(y),
-                        to: z,
-                    });
-                }
+                let left = UnitStep {
+                    from,
+                    number,
+                    dropped: Dropped::Right(z),
+                    to: y,
+                };
+                let right = UnitStep {
+                    from,
+                    number,
+                    dropped: Dropped::Left(y),
+                    to: z,
+                };
+                self.push_if(nullable.holds(z), left);
+                self.push_if(nullable.holds(y), right);
             }
             Right::Terminal(_) => {}
         }
@@ -75,7 +100,10 @@ impl UnitSteps {
 }
 
 // The unit steps of binarised rules.
-pub(crate) fn unit_steps(rules: &[BinarisedRule], nullable: &Nullable) -> UnitSteps {
+pub(crate) fn unit_steps(rules: &[BinarisedRule], nullable: &Nullable) -> UnitSteps
+    requires { ⌜ length (now rules) ≤ 160 ⌝ }
+    ensures { λ r. ⌜ ((S : ℕ) → Nullables (binarised-of (now (rules .entry)) S) (now (nullable .entry)) → steps-of r ≡ all-steps (binarised-of (now (rules .entry)) S)) ⌝ }
+{
     let mut out = UnitSteps::none();
     for rule in rules {
         out.rule(*rule, nullable);

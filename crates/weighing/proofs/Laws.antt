@@ -8,7 +8,7 @@ use native.Mathlib.Nat.{mul-comm, mul-assoc, mul-add, one-mul, zero-mul, mul-zer
 use Rattle.std.proofs.shelf.Tests.{cases-lt}
 use native.Mathlib.Bridge.{le-prop}
 use native.Mathlib.Omega.{arith}
-use Rattle.weighing.specs.Semiring.{Semiring}
+use Rattle.grammar.specs.Semiring.{Semiring}
 use Rattle.weighing.specs.Values.{yesNo, counts, leastCosts}
 use Rattle.weighing.specs.declared.capped.Capped.{Capped}
 

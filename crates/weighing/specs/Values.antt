@@ -2,7 +2,7 @@
 use Prim.Native.Nat.{ℕ, _+_, _*_, _≤_, min}
 use mathlib.Core.Bool.{Bool, true, false, _||_, _&&_}
 use native.Mathlib.Omega.{arith}
-use Rattle.weighing.specs.Semiring.{Ops}
+use Rattle.grammar.specs.Semiring.{Ops}
 use Rattle.weighing.specs.declared.capped.Capped.{Capped}
 
 -- a number, held at the largest of 32 bits

@@ -3,7 +3,7 @@ ghost use mathlib.Core.Path.{_≡_};
 ghost use Prim.Native.Nat.{_≤_};
 ghost use prog.Memory.{size};
 ghost use denote.Param.{layout};
-ghost use Rattle.weighing.specs.Semiring.{Ops, Semiring};
+ghost use Rattle.grammar.specs.Semiring.{Ops, Semiring};
 use crate::bank::Bank;
 
 pub trait Weighing {

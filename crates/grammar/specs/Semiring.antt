@@ -1,5 +1,6 @@
--- What every weighing obeys.
+-- What every weighing obeys, and sums and products over lists.
 use mathlib.Core.Path.{_≡_}
+use mathlib.Core.List.{List, [], _∷_}
 use Prim.Native.Nat.{ℕ}
 
 -- values, how they combine, and what a cost weighs
@@ -33,3 +34,13 @@ pub record Semiring {V : Type 0} (w : Ops V) : Type 0 where
   pub times-zero : (x : V) → w .times (w .zero) x ≡ w .zero
   -- a part beside alternatives is a part beside each of them
   pub distrib : (x y z : V) → w .times x (w .plus y z) ≡ w .plus (w .times x y) (w .times x z)
+
+-- the sum of f over a list; over nothing it is zero
+abbrev pub sum : {A V : Type 0} (M : Ops V) → (A → V) → List A → V
+sum M f [] = M .zero
+sum M f (x ∷ xs) = M .plus (f x) (sum M f xs)
+
+-- the product of f over a list; over nothing it is one
+abbrev pub product : {A V : Type 0} (M : Ops V) → (A → V) → List A → V
+product M f [] = M .one
+product M f (x ∷ xs) = M .times (f x) (product M f xs)
