@@ -17,3 +17,6 @@ returns-else-number-rule-count g c = omega (arith, c .rule-count .ensures)
 
 pub listed : need.listed
 listed g c = let b = c .args .self .now .rules in omega (arith, many b, b .few, b .sized, c .rule-count .ensures)
+
+pub offset-self-number : need.offset-self-number
+offset-self-number g c = let b = c .args .self .now .rules in omega (arith, many b, b .few, c .rule-count .ensures)
