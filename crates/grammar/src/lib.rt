@@ -12,6 +12,11 @@ pub trait Lawful: Sized {
     law semiring: { Semiring ops };
 }
 
+/// Values with operations, whatever laws these obey.
+pub trait Valued: Sized {
+    ghost ops: { Ops Self };
+}
+
 /// The written productions, the binarised and the strict rules of a book each make a grammar.
 pub fn are_grammars()
     ensures { λ _. ⌜ Are-grammars ⌝ }
@@ -113,8 +118,8 @@ pub fn least_exact<E>()
 {}
 
 /// A map that keeps the operations keeps every cell and every total.
-pub fn carries<V: Lawful, U: Lawful, E>()
-    ensures { λ _. ⌜ Carries (V·Lawful .ops) (U·Lawful .ops) E ⌝ }
+pub fn carries<V: Valued, U: Valued, E>()
+    ensures { λ _. ⌜ Carries (V·Valued .ops) (U·Valued .ops) E ⌝ }
 {}
 
 /// The nodes of a reading stand over their events, and tell the reading.
