@@ -1,21 +1,14 @@
 -- The rows in use, as a list.
 use Prim.Native.Nat.{ℕ, _+_, _≤_, _<_}
 use mathlib.Core.Path.{_≡_, refl, sym, ap, _∙_}
-use mathlib.Core.List.{List, [], _∷_, _++_, map}
+use mathlib.Core.List.{List, map}
 use native.Mathlib.Omega.{arith}
-use lib.ListN.{length, take, set, getD}
-use Rattle.std.proofs.shelf.Lists.{map-push, take-more-set, length-map, length-take-le, getD-map, getD-take}
+use lib.ListN.{length, take, getD}
+use Rattle.std.proofs.shelf.Lists.{length-take-le, getD-map, getD-take}
 use Rattle.conversion.specs.Rows.{production-of}
+use Rattle.conversion.proofs.Pushes.{held-length}
 use Rattle.book.specs.declared.rules.Rules.{Rules}
 use Rattle.book.specs.Rules.{held}
-
--- one row more at the end
-pub push-held : {A B : Type 0} (f : A → B) (xs : List A) (n : ℕ) (y : A) → n < length xs → map f (take (n + 1) (set xs n y)) ≡ map f (take n xs) ++ (f y ∷ [])
-push-held f xs n y h = ap (map f) (take-more-set xs n y h) ∙ map-push f (take n xs) y
-
--- as many as are in use
-pub length-held : {A B : Type 0} (f : A → B) (xs : List A) (n : ℕ) → n ≤ length xs → length (map f (take n xs)) ≡ n
-length-held f xs n h = length-map (take n xs) f ∙ length-take-le n xs h
 
 -- what stands in a place of a list that f sees
 pub seen : {A B : Type 0} (f : A → B) (xs : List A) (ys : List B) (k : ℕ) (x : A) → map f xs ≡ ys → k < length xs → (d : B) → f (getD xs k x) ≡ getD ys k d
@@ -27,4 +20,4 @@ in-place f xs n k x h l d = ap f (sym (getD-take n xs k x h)) ∙ seen f (take n
 
 -- how many rules are held
 pub many : (b : Rules) → length (held b) ≡ b .count
-many b = length-held production-of (b .rows) (b .count) (omega (arith, b .few, b .sized))
+many b = held-length production-of (b .rows) (b .count) (omega (arith, b .few, b .sized))

@@ -1,7 +1,7 @@
 -- A book that holds no rule has at most one strict rule for each symbol.
 use Prim.Native.Nat.{ℕ, zero, suc, _+_, _*_, _≤_, _<_}
 use mathlib.Core.Path.{_≡_, refl, sym, ap, subst, _∙_}
-use mathlib.Core.Bool.{Bool, true, false, cond, _||_}
+use mathlib.Core.Bool.{Bool, true, false, cond}
 use mathlib.Core.List.{List, [], _∷_, _++_, map}
 use native.Mathlib.Omega.{arith}
 use native.Mathlib.Nat.{mul-suc, one-mul}
@@ -9,14 +9,15 @@ use lib.Dec.{eqb}
 use lib.ListN.{length, length-append}
 use Rattle.std.proofs.shelf.Lists.{length-map}
 use Rattle.std.proofs.shelf.Tests.{eqb-true, ne-eqb}
-use Rattle.grammar.specs.Lists.{some-of, those, each, count-up, below}
+use Rattle.grammar.specs.Lists.{those, each, count-up, below}
 use Rattle.grammar.proofs.Lists.{length-count-up}
 use Rattle.grammar.specs.Productions.{Book, Production}
 use Rattle.grammar.specs.Binarised.{Right, terminal, Rule, Binarised, Own-rule, rules-in, rules-of}
 use Rattle.grammar.specs.Nullable.{nullable}
-use Rattle.grammar.specs.Chains.{Unit-step, steps-by, steps, within, reached}
+use Rattle.grammar.specs.Chains.{steps-by, steps, within, reached}
 use Rattle.grammar.specs.Strict.{Strict-rule, strict-rule, proper, strict-rules-of, strict-rules}
 use Rattle.grammar.specs.Binarise.{terminal-rule, binarised, Admitted}
+use Rattle.conversion.proofs.Found.{within-none}
 
 -- at most c for each
 each-length : {A B : Type 0} (f : A → List B) (xs : List A) (c : ℕ) → ((x : A) → length (f x) ≤ c) → length (each f xs) ≤ c * length xs
@@ -74,17 +75,6 @@ none T = record { productions = []; patterns = T }
 steps-none : (T x : ℕ) → steps (binarised (none T)) x ≡ []
 unfolding steps rules-of binarised
 steps-none T x = no-step (nullable (binarised (none T))) x 0 T
-
--- without a unit step only the symbol itself is reached
-within-none : (B : Binarised) (x y k : ℕ) → steps B x ≡ [] → within B y k x ≡ eqb x y
-unfolding within
-within-none B x y zero e = refl
-within-none B x y (suc k) e =
-    ap (λ l. within B y k x || some-of (λ (s : Unit-step). within B y k (s .to)) l) e ∙ ap (λ b. b || false) (within-none B x y k e) ∙ no-more (eqb x y)
-  where
-    no-more : (b : Bool) → (b || false) ≡ b
-    no-more true = refl
-    no-more false = refl
 
 those-same : {A : Type 0} (p q : A → Bool) (xs : List A) → ((x : A) → p x ≡ q x) → those p xs ≡ those q xs
 those-same p q [] h = refl

@@ -33,11 +33,6 @@ added-count was is more k a = omega (arith, rules-count was, rules-count is, ap 
 
 -- the pairs of a right side, from place k on
 
-pub tails-length : (ys : List ℕ) → tails ys ≡ length ys - 2
-tails-length [] = refl
-tails-length (a ∷ []) = refl
-tails-length (a ∷ b ∷ ys) = omega arith
-
 pub split-more : (x n z k : ℕ) (ys : List ℕ) → k + 2 < length ys
     → binarise-right x n z (drop k ys) ≡ rule x n (binary (getD ys k 0) z) ∷ binarise-right z n (z + 1) (drop (k + 1) ys)
 split-more x n z k ys h =

@@ -20,6 +20,7 @@ use Rattle.conversion.specs.declared.strict.StrictRules.{StrictRules}
 use Rattle.conversion.specs.Views.{right-side-of, rule-of, binarised-of}
 use Rattle.conversion.specs.Found.{linked, Reached, proper-right, Holds, Appends, by-end, by-ends}
 use Rattle.conversion.proofs.Pushes.{held-push, held-length}
+use Rattle.conversion.proofs.Firsts.{own-append}
 use Rattle.conversion.proofs.Each.{those-append, each-those, each-more, each-same, each-shorter}
 
 -- one more, or no room for it
@@ -57,12 +58,6 @@ pub appends-nothing : (was is : StrictRules) (m : List Strict-rule) → is ≡ w
 appends-nothing was is m s e = subst (λ k. Appends was k m) (sym s) (appends-same was was [] m (sym e) (appends-none was))
 
 -- the rules of an end, rule by rule
-
-own-append : (y : ℕ) (rs qs : List Rule) → rules-in y (rs ++ qs) ≡ rules-in y rs ++ rules-in y qs
-own-append y [] qs = refl
-own-append y (r ∷ rs) qs =
-    elim (eqb (r .left) y) as (λ b. cond b ((r .number, r .right) ∷ rules-in y (rs ++ qs)) (rules-in y (rs ++ qs)) ≡ cond b ((r .number, r .right) ∷ rules-in y rs) (rules-in y rs) ++ rules-in y qs)
-    [ true ↦ ap (λ l. (r .number, r .right) ∷ l) (own-append y rs qs) | false ↦ own-append y rs qs ]
 
 by-end-append : (rs qs : List BinarisedRule) (x y : ℕ) → by-end (rs ++ qs) x y ≡ by-end rs x y ++ by-end qs x y
 by-end-append rs qs x y =
@@ -164,12 +159,12 @@ steps-none : (B : Binarised) (x : ℕ) → rules-of B x ≡ [] → steps B x ≡
 unfolding steps
 steps-none B x e = ap (each (λ (o : Own-rule). steps-by (nullable B) x (o .0) (o .1))) e
 
--- from a symbol without rules a chain leads to that symbol alone
-pub within-none : (B : Binarised) (x y k : ℕ) → rules-of B x ≡ [] → within B y k x ≡ eqb x y
+-- from a symbol without unit steps a chain leads to that symbol alone
+pub within-none : (B : Binarised) (x y k : ℕ) → steps B x ≡ [] → within B y k x ≡ eqb x y
 unfolding within
 within-none B x y zero e = refl
 within-none B x y (suc k) e =
-    ap₂ (λ b l. b || some-of (λ (s : Unit-step). within B y k (s .to)) l) (within-none B x y k e) (steps-none B x e) ∙ or-false (eqb x y)
+    ap₂ (λ b l. b || some-of (λ (s : Unit-step). within B y k (s .to)) l) (within-none B x y k e) e ∙ or-false (eqb x y)
 
 own-of : (rules : List BinarisedRule) (S y : ℕ) → rules-of (binarised-of rules S) y ≡ rules-in y (map rule-of rules)
 unfolding rules-of
@@ -182,7 +177,7 @@ module _ (rules : List BinarisedRule) (c : Chains) (S : ℕ) (bounded : Bounded 
   symbol-past : (x : ℕ) → S ≤ x → x < N → by-ends rules c x N ≡ []
   symbol-past x h l = by-ends-are rules c x N ∙ each-shorter (by-link rules c x) 0 N (omega arith) (λ y a k. elim (cases-lt y S) [
     | inl j ↦ ap (λ b. cond b (by-end rules x y) [])
-        (table x y (omega arith) (omega arith) ∙ within-none B x y S (own-of rules S x ∙ own-past rules S x bounded h) ∙ ne-eqb x y (λ e. omega arith))
+        (table x y (omega arith) (omega arith) ∙ within-none B x y S (steps-none B x (own-of rules S x ∙ own-past rules S x bounded h)) ∙ ne-eqb x y (λ e. omega arith))
     | inr j ↦ by-link-past rules c S x y bounded j
   ])
 

@@ -22,7 +22,8 @@ use Rattle.conversion.specs.declared.chain.Chain.{Chain}
 use Rattle.conversion.specs.declared.chain.Chain.the-variants.{Absent, Empty, Steps}
 use Rattle.conversion.specs.declared.chain.Chains.{Chains}
 use Rattle.conversion.proofs.Firsts.{some-append, first-append, getD-mem}
-use Rattle.conversion.proofs.Stepping.{starts, own-steps, those-append}
+use Rattle.conversion.proofs.Each.{those-append}
+use Rattle.conversion.proofs.Stepping.{starts, own-steps}
 
 -- a chain of at most j steps leads to y from where the step ends
 abbrev pub near : Binarised → ℕ → ℕ → Unit-step → Bool

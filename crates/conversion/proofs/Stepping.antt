@@ -12,12 +12,9 @@ use Rattle.grammar.specs.Binarised.{Right as Right-side, empty, unit, binary, t
 use Rattle.grammar.specs.Nullable.{nullable}
 use Rattle.grammar.specs.Chains.{Dropped as Drop, nothing, the-right, the-left, Unit-step, unit-step, steps-by, steps}
 use Rattle.conversion.specs.Views.{step-of}
+use Rattle.conversion.proofs.Each.{each-append, those-append}
 use Rattle.conversion.specs.Linked.{all-steps}
 use Rattle.conversion.specs.declared.chain.UnitStep.{UnitStep}
-
-pub each-append : {A C : Type 0} (f : A → List C) (xs ys : List A) → each f (xs ++ ys) ≡ each f xs ++ each f ys
-each-append f [] ys = refl
-each-append f (x ∷ xs) ys = ap (λ l. f x ++ l) (each-append f xs ys) ∙ sym (append-assoc (f x) (each f xs) (each f ys))
 
 -- one row more
 pub each-more : {A B C : Type 0} (f : B → List C) (g : A → B) (xs : List A) (i : ℕ) (d : A) → i < length xs
@@ -29,15 +26,6 @@ each-more f g xs i d h =
 pub each-turn : {A B C : Type 0} (f : B → List C) (g : A → B) (xs : List A) (i : ℕ) (d : A) (l m : List C) → i < length xs
     → m ≡ l ++ f (g (getD xs i d)) → l ≡ each f (map g (take i xs)) → m ≡ each f (map g (take (i + 1) xs))
 each-turn f g xs i d l m h e k = e ∙ ap (λ z. z ++ f (g (getD xs i d))) k ∙ sym (each-more f g xs i d h)
-
-pub those-append : {A : Type 0} (p : A → Bool) (xs ys : List A) → those p (xs ++ ys) ≡ those p xs ++ those p ys
-those-append p [] ys = refl
-those-append p (x ∷ xs) ys = (elim (p x) as (λ b. cond b (x ∷ those p (xs ++ ys)) (those p (xs ++ ys)) ≡ cond b (x ∷ those p xs) (those p xs) ++ those p ys)
-    [ true ↦ ap (λ l. x ∷ l) (those-append p xs ys) | false ↦ those-append p xs ys ])
-
--- one step more in an array
-pub steps-push : (l : List UnitStep) (n : ℕ) (s : UnitStep) → n < length l → map step-of (take (n + 1) (set l n s)) ≡ map step-of (take n l) ++ (step-of s ∷ [])
-steps-push l n s h = ap (map step-of) (take-more-set l n s h) ∙ map-push step-of (take n l) s
 
 -- a step begins at x
 abbrev pub starts : ℕ → Unit-step → Bool

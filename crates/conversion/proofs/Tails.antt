@@ -7,17 +7,13 @@ use native.Mathlib.Nat.{add-assoc, zero-add, add-zero}
 use lib.ListN.{length, take, getD}
 use Rattle.std.proofs.shelf.Lists.{map-more}
 use Rattle.grammar.specs.Productions.{Production, tails, all-tails}
+use Rattle.grammar.proofs.Tails.{tails-push}
 
 -- two fewer than the items
 pub tails-length : (ys : List ℕ) → tails ys ≡ length ys - 2
 tails-length [] = refl
 tails-length (a ∷ []) = refl
 tails-length (a ∷ b ∷ ys) = omega arith
-
--- the tails of a list with one production more
-pub tails-push : (ps : List Production) (p : Production) → all-tails (ps ++ (p ∷ [])) ≡ all-tails ps + tails (p .right)
-tails-push [] p = omega arith
-tails-push (q ∷ ps) p = ap (λ n. tails (q .right) + n) (tails-push ps p) ∙ sym (add-assoc (tails (q .right)) (all-tails ps) (tails (p .right)))
 
 -- one row more
 pub tails-more : {A : Type 0} (f : A → Production) (xs : List A) (i : ℕ) (d : A) → i < length xs

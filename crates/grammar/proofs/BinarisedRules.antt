@@ -13,6 +13,7 @@ use Rattle.grammar.specs.Binarised.{Right, empty, unit, binary, terminal, Rule
 use Rattle.grammar.specs.Strict.{Proper}
 use Rattle.grammar.specs.Productions.{Production, cost-of, all-tails, Book, Numbers, production, head-of, right-of, tails, first-tail, Sound, Proper-book}
 use Rattle.grammar.specs.Binarise.{one-item, binaries, binarise-right, binarise-production, terminal-rule, binarised, Rising, Within}
+use Rattle.grammar.proofs.Nullable.{rules-in-mem}
 use Rattle.grammar.proofs.Tails.{tails-within, tails-upto}
 use Rattle.grammar.proofs.Lists.{mem-left, mem-right, mem-append, mem-map, map-mem, mem-each, each-mem, mem-below, count-up-mem}
 
@@ -323,17 +324,6 @@ module _ (W : Book) (P : Proper-book W) where
 abbrev pub Ascending : List Own-rule → Type 0
 Ascending [] = Unit {0}
 Ascending (o ∷ os) = ((q : Own-rule) → Mem q os → o .0 < q .0) × Ascending os
-
-pub rules-in-mem : (x : ℕ) (o : Own-rule) (rs : List Rule) → Mem o (rules-in x rs) → Mem (rule x (o .0) (o .1)) rs
-rules-in-mem x o [] m = elim m [ ]
-rules-in-mem x o (r ∷ rs) m =
-    (elim (eqb (r .left) x) as (λ b. eqb (r .left) x ≡ b → Mem o (cond b ((r .number, r .right) ∷ rules-in x rs) (rules-in x rs)) → Mem (rule x (o .0) (o .1)) (r ∷ rs)) [
-      | true ↦ λ e m′. elim m′ [
-        | inl i ↦ inl (λ j. record { left = sym (eqb-true (r .left) x e) j; number = i j .0; right = i j .1 })
-        | inr i ↦ inr (rules-in-mem x o rs i)
-      ]
-      | false ↦ λ e m′. inr (rules-in-mem x o rs m′)
-    ]) refl m
 
 pub rules-ascending : (x : ℕ) (rs : List Rule) → Rising rs → Ascending (rules-in x rs)
 rules-ascending x [] p = tt

@@ -19,7 +19,8 @@ use Rattle.conversion.specs.Rows.{production-of, written}
 use Rattle.book.specs.declared.rules.Rules.{Rules}
 use Rattle.book.specs.Rules.{held}
 use Rattle.book.specs.Offers.{book, same-rule}
-use Rattle.book.proofs.Held.{push-held, many}
+use Rattle.conversion.proofs.Pushes.{held-push}
+use Rattle.book.proofs.Held.{many}
 use Rattle.book.proofs.Props.{admitted-of}
 use Rattle.book.proofs.Refused.{Past-four, tails-then, strict-then, meets-five, meets-six, meets-seven, meets-none, past-sound}
 use Rattle.book.proofs.rules.Rules.offer.Needs as need
@@ -36,7 +37,7 @@ past b p row is h s u e =
 -- the rows with one more
 pushed : (b : Rules) (p : Written) (row : Production) → production-of row ≡ p → b .count < 64
     → map production-of (take (b .count + 1) (set (b .rows) (b .count) row)) ≡ held b ++ (p ∷ [])
-pushed b p row is h = push-held production-of (b .rows) (b .count) row (omega (arith, b .sized)) ∙ ap (λ q. held b ++ (q ∷ [])) is
+pushed b p row is h = held-push production-of (b .rows) (b .count) row (omega (arith, b .sized)) ∙ ap (λ q. held b ++ (q ∷ [])) is
 
 -- the rows with one more, as they are lent
 lent : (b : Rules) (p : Written) (row : Production) → production-of row ≡ p → b .count < 64

@@ -2,7 +2,8 @@ use Prim.Native.Nat.{_-_}
 use mathlib.Core.Path.{_≡_, _∙_, ap}
 use native.Mathlib.Omega.{arith}
 use lib.ListN.{length}
-use Rattle.conversion.proofs.Divided.{added-count, tails-length, Whole, pairs-more, pairs-end}
+use Rattle.conversion.proofs.Divided.{added-count, Whole, pairs-more, pairs-end}
+use Rattle.conversion.proofs.Tails.{tails-length}
 use Rattle.conversion.proofs.binarised.BinarisedRules.pairs.Needs as need
 
 pub push-requires : need.push-requires
