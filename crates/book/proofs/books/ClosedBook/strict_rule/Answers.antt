@@ -20,7 +20,7 @@ returns-then-place-list g c =
     let l = c .strict-list .result .now in
     let W = rows-book (take (b .count) (b .rows)) (b .patterns) in
     let e : map strict-rule-of l ≡ strict-rules (binarised W) = ap (map strict-rule-of) (c .strict-list .ensures) ∙ strict-kept W (k .form) (b .admitted) (k .formed) in
-    (omega (arith, ap length e, length-map l strict-rule-of, c .if-place-list .taken), seen strict-rule-of l (strict-rules (binarised W)) (c .args .place) _ e (c .if-place-list .taken))
+    (omega (arith, ap length e, length-map l strict-rule-of, c .if-place-list .taken), seen strict-rule-of l (strict-rules (binarised W)) (c .args .place) _ e (omega (arith, c .if-place-list .taken)))
 
 pub returns-else-place-list : need.returns-else-place-list
 returns-else-place-list g c =
