@@ -1,6 +1,6 @@
 -- The steps by which an array comes to hold the strict rules of a grammar.
 use Rattle.std.proofs.Common.{◌≡◌, ℕ, zero, suc, ◌+◌, ◌<◌, ◌≤◌, Bool, true, false, cond, ◌||◌, eqb, leb, List, [], ◌∷◌, ◌++◌, map, length, get_or, take, set, sym, refl, ap, ◌∙◌, subst, ap₂, inl, inr, arith}
-use Rattle.std.proofs.lemmas.List.{append_assoc, append-nil, map_append, length-append, length-take, take_all, take-append-le, take_more}
+use Rattle.std.proofs.lemmas.List.{append_assoc, append-nil, map-append, length-append, length-take, take_all, take-append-le, take_more}
 use Rattle.std.proofs.lemmas.Bool.{le-leb, cases_lt, eq-eqb, ne_eqb}
 use Rattle.grammar.specs.Lists.{Mem, some_of, those, each, below}
 use Rattle.grammar.specs.Binarised.{Rule, Binarised, OwnRule, rules_in, rules_of, Bounded}
@@ -55,9 +55,9 @@ appends_nothing was is m s e = subst (λ k. Appends was k m) (sym s) (appends_sa
 by_end_append : (rs qs : List BinarisedRule) (x y : ℕ) → by_end (rs ++ qs) x y ≡ by_end rs x y ++ by_end qs x y
 by_end_append rs qs x y =
     let p : OwnRule → Bool = λ o. proper o.1 in
-    ap (λ l. map (strict_rule x y) (those p l)) (ap (rules_in y) (map_append rule_of rs qs) ∙ own_append y (map rule_of rs) (map rule_of qs))
+    ap (λ l. map (strict_rule x y) (those p l)) (ap (rules_in y) (map-append rule_of rs qs) ∙ own_append y (map rule_of rs) (map rule_of qs))
     ∙ ap (map (strict_rule x y)) (those_append p (rules_in y (map rule_of rs)) (rules_in y (map rule_of qs)))
-    ∙ map_append (strict_rule x y) (those p (rules_in y (map rule_of rs))) (those p (rules_in y (map rule_of qs)))
+    ∙ map-append (strict_rule x y) (those p (rules_in y (map rule_of rs))) (those p (rules_in y (map rule_of qs)))
 
 by_end_more : (rules : List BinarisedRule) (i : ℕ) (d : BinarisedRule) (x y : ℕ) → i < length rules
     → by_end (take (i + 1) rules) x y ≡ by_end (take i rules) x y ++ by_end (get_or rules i d ∷ []) x y

@@ -1,6 +1,6 @@
 -- What the outcome of a line means.
 use Rattle.std.proofs.Common.{◌≡◌, ℕ, suc, ◌+◌, ◌-◌, ◌<◌, ◌≤◌, Bool, true, false, cond, ltb, leb, ◌⊎◌, List, [], ◌∷◌, ◌++◌, map, length, Some, None, Option, sym, refl, ap, ◌∙◌, subst, inl, inr, ⊎_elim, append_assoc, append-nil, arith, length-append}
-use mathlib.Core.List.{map_append}
+use mathlib.Core.List.{map-append}
 use Rattle.std.proofs.lemmas.List.{length-map}
 use Rattle.std.proofs.lemmas.Bool.{both_ways, cases_Bool, cases_lt, cond-true, cond-false, le-leb, leb-true, lt-ltb, le-ltb}
 use Rattle.grammar.specs.Lists.{Mem}
@@ -195,9 +195,9 @@ module _ (end : ℕ) where
 
         -- a word behind the cost
         more_behind : (c : ℕ) → kind w.bytes ≡ cost c → c ≤ 65535 → (vs : List Piece) → Means end (before ++ (w ∷ vs)) (no_more (rule (written h is c)) vs)
-        more_behind c k l [] = (can_write h is c low items l, inl (map_append (λ (v : Piece). kind v.bytes) before (w ∷ []) ∙ ap (λ z. z ++ (kind w.bytes ∷ [])) e ∙ ap (λ z. front_kinds (written h is 0) ++ (z ∷ [])) k))
+        more_behind c k l [] = (can_write h is c low items l, inl (map-append (λ (v : Piece). kind v.bytes) before (w ∷ []) ∙ ap (λ z. z ++ (kind w.bytes ∷ [])) e ∙ ap (λ z. front_kinds (written h is 0) ++ (z ∷ [])) k))
         more_behind c k l (v ∷ vs) =
-            let all : kinds (before ++ (w ∷ [])) ≡ front_kinds (written h is 0) ++ (cost c ∷ []) = map_append (λ (v : Piece). kind v.bytes) before (w ∷ []) ∙ ap (λ z. z ++ (kind w.bytes ∷ [])) e ∙ ap (λ z. front_kinds (written h is 0) ++ (z ∷ [])) k in
+            let all : kinds (before ++ (w ∷ [])) ≡ front_kinds (written h is 0) ++ (cost c ∷ []) = map-append (λ (v : Piece). kind v.bytes) before (w ∷ []) ∙ ap (λ z. z ++ (kind w.bytes ∷ [])) e ∙ ap (λ z. front_kinds (written h is 0) ++ (z ∷ [])) k in
             subst (λ z. Means end z (misplaced v)) (append_assoc before (w ∷ []) (v ∷ vs))
             (refused_word (before ++ (w ∷ [])) v vs (written h is c, ([], (can_write h is c low items l, inl (append-nil (kinds (before ++ (w ∷ []))) ∙ all)))) (too_many all))
           where
@@ -218,7 +218,7 @@ module _ (end : ℕ) where
 
     more_items : (is : List ℕ) (i : ℕ) → (is ≡ [] → ⊥) → right_kinds is ++ (item_kind i ∷ []) ≡ right_kinds (is ++ (i ∷ []))
     more_items [] i some = absurd (some refl)
-    more_items (j ∷ is) i some = sym (map_append item_kind (j ∷ is) (i ∷ []))
+    more_items (j ∷ is) i some = sym (map-append item_kind (j ∷ is) (i ∷ []))
 
     pushed_some : (is : List ℕ) (i : ℕ) → is ++ (i ∷ []) ≡ [] → ⊥
     pushed_some is i e = omega (arith, ap length e, length-append is (i ∷ []))
@@ -233,7 +233,7 @@ module _ (end : ℕ) where
     item_means is before (w ∷ ws) some items e = at (item_of (kind w.bytes)) refl (λ i k l.
         subst (λ z. Means end z (item_part h (is ++ (i ∷ [])) ws)) (append_assoc before (w ∷ []) ws)
         (item_means (is ++ (i ∷ [])) (before ++ (w ∷ [])) ws (pushed_some is i) (pushed_low is i items l)
-        (map_append (λ (v : Piece). kind v.bytes) before (w ∷ []) ∙ ap (λ z. z ++ (kind w.bytes ∷ [])) e ∙ ap (λ z. front_kinds (written h is 0) ++ (z ∷ [])) k ∙ ap (λ z. head h ∷ (arrow ∷ z)) (more_items is i some))))
+        (map-append (λ (v : Piece). kind v.bytes) before (w ∷ []) ∙ ap (λ z. z ++ (kind w.bytes ∷ [])) e ∙ ap (λ z. front_kinds (written h is 0) ++ (z ∷ [])) k ∙ ap (λ z. head h ∷ (arrow ∷ z)) (more_items is i some))))
       where
         at : (o : Option ℕ) → item_of (kind w.bytes) ≡ o → ((i : ℕ) → kind w.bytes ≡ item_kind i → i < 64 → Means end (before ++ (w ∷ ws)) (item_part h (is ++ (i ∷ [])) ws))
             → Means end (before ++ (w ∷ ws)) (by o (cost_part h is (w ∷ ws)) (λ i. item_part h (is ++ (i ∷ [])) ws))
@@ -259,7 +259,7 @@ module _ (end : ℕ) where
     right_means before (w ∷ ws) e = by_blank (is_blank (kind w.bytes)) refl
       where
         grown : (k : Kind) → kind w.bytes ≡ k → kinds (before ++ (w ∷ [])) ≡ head h ∷ (arrow ∷ (k ∷ []))
-        grown k q = map_append (λ (v : Piece). kind v.bytes) before (w ∷ []) ∙ ap (λ z. z ++ (kind w.bytes ∷ [])) e ∙ ap (λ z. head h ∷ (arrow ∷ (z ∷ []))) q
+        grown k q = map-append (λ (v : Piece). kind v.bytes) before (w ∷ []) ∙ ap (λ z. z ++ (kind w.bytes ∷ [])) e ∙ ap (λ z. head h ∷ (arrow ∷ (z ∷ []))) q
 
         neither : is_blank (kind w.bytes) ≡ false → item_of (kind w.bytes) ≡ None → Begins (kinds before ++ (kind w.bytes ∷ [])) → ⊥
         neither nb ni (p, (more, s)) =

@@ -6,8 +6,8 @@ use Rattle.chart.proofs.NullableWeights.{empty_weight}
 use Rattle.chart.proofs.Kept.{kept_form}
 use Rattle.chart.proofs.chart.empty_total.Goals as goal
 
-pub nullable-weights-bank-requires : goal.nullable-weights-bank-requires
-nullable-weights-bank-requires g c = record {
+pub nullable_weights-bank-requires : goal.nullable_weights-bank-requires
+nullable_weights-bank-requires g c = record {
   formed = kept_form c.args.book.now c.rules.result.now c.form.result.now c.rules.ensures c.form.ensures;
   wide = g.met.W.Weighing.wide;
 }
@@ -15,6 +15,6 @@ nullable-weights-bank-requires g c = record {
 pub returns : goal.returns
 returns g c fits =
     let M = g.W.Weighing.ops in
-    let f = g.Values.Bank.item c.nullable-weights-bank.result in
-    let h = subst (λ (W : Book). NullableWeights M W f) (ap rules_book c.rules.ensures) c.nullable-weights-bank.ensures in
+    let f = g.Values.Bank.item c.nullable_weights-bank.result in
+    let h = subst (λ (W : Book). NullableWeights M W f) (ap rules_book c.rules.ensures) c.nullable_weights-bank.ensures in
     empty_weight M (closed_book c.args.book.now) fits f h _ c.get.result c.get.ensures (omega arith)

@@ -10,21 +10,21 @@ use Rattle.chart.proofs.Sizes.{pairs_small}
 use Rattle.chart.proofs.PairAdding.{added_starts_as}
 use Rattle.chart.proofs.columns.add_middle.Goals as goal
 
-pub cell-place-right-requires : goal.cell-place-right-requires
-cell-place-right-requires g c =
+pub cell_place-right-requires : goal.cell_place-right-requires
+cell_place-right-requires g c =
     (c.requires.room.symbols, (c.requires.room.counted, (omega (arith, c.requires.room.few), c.requires.parts.1)))
 
 pub gather-requires : goal.gather-requires
 gather-requires g c = (
   pairs_small (layout g.row.W-Value) g.met.W.Weighing.small,
-  (c.requires.book.weights, omega (arith, c.cell-place-right.ensures, place_small c.args.symbols c.args.end c.args.middle c.requires.room.symbols c.requires.room.few c.requires.parts.1)),
+  (c.requires.book.weights, omega (arith, c.cell_place-right.ensures, place_small c.args.symbols c.args.end c.args.middle c.requires.room.symbols c.requires.room.few c.requires.parts.1)),
 )
 
 pub list-requires : goal.list-requires
 list-requires g c = pairs_small (layout g.row.W-Value) g.met.W.Weighing.small
 
-pub add-starts-requires : goal.add-starts-requires
-add-starts-requires g c = record {
+pub add_starts-requires : goal.add_starts-requires
+add_starts-requires g c = record {
   room = c.requires.room;
   part = c.requires.parts.1;
   within = λ p m. let b = c.gather.ensures.within p (subst (Mem p) c.list.ensures m) in (omega (arith, b.0, c.requires.book.symbols), omega (arith, b.1, c.requires.book.symbols));
@@ -38,7 +38,7 @@ returns g c =
     let was = a.weights.now in
     let left : ℕ → ℕ → g.row.W-Value.Denot = λ i. cell_at M was (cell_place a.symbols a.middle i) in
     added_starts_as M g.met.W.Weighing.semiring a.symbols a.end a.middle
-    (λ i x. pairs_sum M (left i) x c.list.result.now) (λ i. over_parts W M (left i) (cell_at M was (cell_place a.symbols a.end a.middle))) was c.add-starts.new.weights
+    (λ i x. pairs_sum M (left i) x c.list.result.now) (λ i. over_parts W M (left i) (cell_at M was (cell_place a.symbols a.end a.middle))) was c.add_starts.new.weights
     (λ i x hx. ap (pairs_sum M (left i) x) c.list.ensures ∙ c.gather.ensures.sums (left i) x (subst (λ n. x < n) c.requires.book.symbols hx)
-    ∙ ap (λ r. over_parts W M (left i) (cell_at M was r) x) c.cell-place-right.ensures)
-    c.add-starts.ensures
+    ∙ ap (λ r. over_parts W M (left i) (cell_at M was r) x) c.cell_place-right.ensures)
+    c.add_starts.ensures

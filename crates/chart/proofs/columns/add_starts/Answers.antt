@@ -8,8 +8,8 @@ loop-start-init g c =
     let a = c.args in
     no_start g.W.Weighing.ops g.met.W.Weighing.semiring a.symbols a.end a.middle a.pairs.now c.requires.within a.weights.now
 
-pub add-pairs-requires : goal.add-pairs-requires
-add-pairs-requires g c = record {
+pub add_pairs-requires : goal.add_pairs-requires
+add_pairs-requires g c = record {
   room = room_kept c.args.symbols c.args.end _ _ c.loop-start.auto.weights c.requires.room;
   parts = (omega (arith, c.loop-start-test.true), c.requires.part);
   within = c.requires.within;
@@ -19,7 +19,7 @@ pub loop-start-preserved : goal.loop-start-preserved
 loop-start-preserved g c =
     let a = c.args in
     one_start g.W.Weighing.ops g.met.W.Weighing.semiring a.symbols a.end a.middle a.pairs.now c.requires.within c.loop-start.start
-    a.weights.now c.loop-start.weights c.add-pairs.new.weights (omega (arith, c.loop-start-test.true)) c.requires.part c.add-pairs.ensures c.loop-start.invariant
+    a.weights.now c.loop-start.weights c.add_pairs.new.weights (omega (arith, c.loop-start-test.true)) c.requires.part c.add_pairs.ensures c.loop-start.invariant
 
 pub returns : goal.returns
 returns g c =

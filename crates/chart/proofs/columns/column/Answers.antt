@@ -9,27 +9,27 @@ use Rattle.chart.proofs.columns.column.Goals as goal
 
 pub clear-requires : goal.clear-requires
 clear-requires g c = (
-  omega (arith, c.column-place-from.ensures, c.column-place-to.ensures, start_mono c.args.symbols c.args.end (c.args.end + 1) (omega arith)),
-  omega (arith, c.column-place-to.ensures, c.requires.room.long),
+  omega (arith, c.column_place-from.ensures, c.column_place-to.ensures, start_mono c.args.symbols c.args.end (c.args.end + 1) (omega arith)),
+  omega (arith, c.column_place-to.ensures, c.requires.room.long),
 )
 
-pub one-event-requires : goal.one-event-requires
-one-event-requires g c =
+pub one_event-requires : goal.one_event-requires
+one_event-requires g c =
     let s = c.args.symbols in
     let e = c.args.end in
     record {
       book = c.requires.book;
       room = (
-        omega (arith, c.cell-place-last.ensures, cell_within s e (e - 1) (omega (arith, c.requires.room.counted)), c.requires.room.long, c.clear.auto.weights),
-        omega (arith, c.cell-place-last.ensures, place_small s e (e - 1) c.requires.room.symbols c.requires.room.few (omega (arith, c.requires.room.counted))),
+        omega (arith, c.cell_place-last.ensures, cell_within s e (e - 1) (omega (arith, c.requires.room.counted)), c.requires.room.long, c.clear.auto.weights),
+        omega (arith, c.cell_place-last.ensures, place_small s e (e - 1) c.requires.room.symbols c.requires.room.few (omega (arith, c.requires.room.counted))),
       );
     }
 
-pub no-pairs-pairs-requires : goal.no-pairs-pairs-requires
-no-pairs-pairs-requires g c = pairs_small (layout g.row.W-Value) g.met.W.Weighing.small
+pub no_pairs-pairs-requires : goal.no_pairs-pairs-requires
+no_pairs-pairs-requires g c = pairs_small (layout g.row.W-Value) g.met.W.Weighing.small
 
-pub add-middle-requires : goal.add-middle-requires
-add-middle-requires g c = (
+pub add_middle-requires : goal.add_middle-requires
+add_middle-requires g c = (
   pairs_small (layout g.row.W-Value) g.met.W.Weighing.small,
   (
     c.requires.book,
@@ -49,16 +49,16 @@ pub loop-middle-preserved : goal.loop-middle-preserved
 loop-middle-preserved g c =
     let b = c.args.book.now in
     middles_more (closed_book b) (book_sound b) g.W.Weighing.ops g.met.W.Weighing.semiring (closed_fits g.A.Alphabet.test b) c.args.symbols c.args.end
-    (c.loop-middle.middle - 1) c.loop-middle.middle c.one_event.new.weights c.loop-middle.weights c.add-middle.new.weights
-    c.requires.book.symbols (omega arith) (omega (arith, c.loop-middle-test.true, c.loop-middle.auto.middle)) (omega (arith, c.loop-middle-test.true)) c.add-middle.ensures c.loop-middle.invariant
+    (c.loop-middle.middle - 1) c.loop-middle.middle c.one_event.new.weights c.loop-middle.weights c.add_middle.new.weights
+    c.requires.book.symbols (omega arith) (omega (arith, c.loop-middle-test.true, c.loop-middle.auto.middle)) (omega (arith, c.loop-middle-test.true)) c.add_middle.ensures c.loop-middle.invariant
 
 pub returns : goal.returns
 returns g c =
     let b = c.args.book.now in
     let whole = middles_all (closed_book b) (book_sound b) g.W.Weighing.ops g.met.W.Weighing.semiring (closed_fits g.A.Alphabet.test b) c.args.symbols c.args.end
-    c.loop-middle.middle c.column-place-from.result c.column-place-to.result c.cell-place-last.result c.args.event
+    c.loop-middle.middle c.column_place-from.result c.column_place-to.result c.cell_place-last.result c.args.event
     c.args.weights.now c.clear.new.weights c.one_event.new.weights c.loop-middle.weights
     c.requires.book.symbols c.requires.room.counted (omega (arith, c.loop-middle-test.false))
     (omega (arith, c.requires.room.long, c.loop-middle.auto.weights, c.one_event.auto.weights, c.clear.auto.weights))
-    (omega (arith, c.column-place-from.ensures)) (omega (arith, c.column-place-to.ensures)) (omega (arith, c.cell-place-last.ensures)) c.clear.ensures c.one_event.ensures c.loop-middle.invariant in
+    (omega (arith, c.column_place-from.ensures)) (omega (arith, c.column_place-to.ensures)) (omega (arith, c.cell_place-last.ensures)) c.clear.ensures c.one_event.ensures c.loop-middle.invariant in
     record { outside = whole.0; chart = whole.1 }

@@ -2,7 +2,7 @@ use Rattle.book.proofs.Props.{admitted_of}
 use Rattle.chart.specs.Weights.{rules_book}
 use Rattle.chart.proofs.NullableWeights.{turn_none, turn_other, turn_more}
 use Rattle.chart.proofs.nullable.round.Goals as goal
-use Rattle.chart.proofs.nullable.round.Goals.{in-Some+then-by-round, in-Some+else-by-round, in-default}
+use Rattle.chart.proofs.nullable.round.Goals.{in-Some+then-by-round, in-Some+else-by-round, in_default}
 
 pub loop-symbol-preserved : goal.loop-symbol-preserved
 loop-symbol-preserved g c =
@@ -21,7 +21,7 @@ loop-symbol-preserved g c =
     elim c.match-brought.branch [
       | in-Some+then-by-round w ↦
           turn_more M L W S n N item k s was is amid w.in-Some.by w.in-Some.ensures w.if-by-round.true g.B.Bank.size c.requires.wide
-          w.brought-weight-weight.result w.brought-weight-weight.ensures w.put.new.self w.put.ensures w.bank-is
+          w.brought_weight-weight.result w.brought_weight-weight.ensures w.put.new.self w.put.ensures w.bank-is
       | in-Some+else-by-round w ↦ turn_other M L W S n N item k s was is amid w.in-Some.by w.in-Some.ensures w.if-by-round.false w.bank-is
-      | in-default w ↦ turn_none M L W S n N item k s was is amid w.in-default.ensures w.bank-is
+      | in_default w ↦ turn_none M L W S n N item k s was is amid w.in_default.ensures w.bank-is
     ]

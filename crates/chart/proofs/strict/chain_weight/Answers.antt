@@ -12,7 +12,7 @@ loop-step-preserved g c =
     let z = c.loop-step.at in
     let y = c.args.to in
     let there = chosen_there W S c.args.form.now.chains c.requires.formed.chains z y c.loop-step.invariant.0 _ c.in-Steps.ensures in
-    way_more M L W S (g.B.Bank.item c.args.bank.now) c.requires.weights y z c.in-Steps.field-0 c.in-Steps.step there c.step-weight.result c.step-weight.ensures
+    way_more M L W S (g.B.Bank.item c.args.bank.now) c.requires.weights y z c.in-Steps.field-0 c.in-Steps.step there c.step_weight.result c.step_weight.ensures
     c.args.from c.loop-step.product c.times-product.result c.times-product.ensures c.loop-step.invariant
 
 pub loop-step-smaller : goal.loop-step-smaller
@@ -33,4 +33,4 @@ returns g c =
     let z = c.loop-step.at in
     let y = c.args.to in
     let there = chosen_there W S c.args.form.now.chains c.requires.formed.chains z y c.loop-step.invariant.0 _ c.chain.ensures in
-    way_end M L W S c.args.from y z c.loop-step.product c.chain.result c.in-default.not-Steps there c.loop-step.invariant
+    way_end M L W S c.args.from y z c.loop-step.product c.chain.result c.in_default.not-Steps there c.loop-step.invariant

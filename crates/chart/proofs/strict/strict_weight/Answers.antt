@@ -4,8 +4,8 @@ use Rattle.conversion.specs.Views.{strict_rule_of}
 use Rattle.chart.specs.Weights.{rules_book}
 use Rattle.chart.proofs.strict.strict_weight.Goals as goal
 
-pub chain-weight-requires : goal.chain-weight-requires
-chain-weight-requires g c =
+pub chain_weight-requires : goal.chain_weight-requires
+chain_weight-requires g c =
     let B = binarised (rules_book c.args.rules.now) in
     let r = strict_rule_of c.args.rule in
     record { formed = c.requires.formed; weights = c.requires.weights; leads = (rule_there B r.symbol r (strict_mem B r c.requires.listed).1).1 }

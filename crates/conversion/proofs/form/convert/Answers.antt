@@ -21,15 +21,15 @@ pub returns : goal.returns
 returns c =
     let b = c.binarise-binarised.result in
     let n = c.nullable-nullable.result in
-    let u = c.unit-steps-steps.result in
+    let u = c.unit_steps-steps.result in
     let t = c.chains-chains.result in
-    let s = c.all_strict.result in
+    let s = c.all-strict.result in
     joined (rows_book c.args.productions.now c.args.patterns) b n u t s c.requires
     record {
       rules = c.binarise-binarised.ensures.rules;
       symbols = c.binarise-binarised.ensures.symbols;
       nullables = subst (λ (rs : List BinarisedRule). (T : ℕ) → T ≤ 128 → Bounded (binarised_of rs T) → Nullables (binarised_of rs T) n) c.list.ensures c.nullable-nullable.ensures;
-      steps = subst (λ (rs : List BinarisedRule). (T : ℕ) → Nullables (binarised_of rs T) n → steps_of u ≡ all_steps (binarised_of rs T)) c.list-2.ensures c.unit-steps-steps.ensures;
+      steps = subst (λ (rs : List BinarisedRule). (T : ℕ) → Nullables (binarised_of rs T) n → steps_of u ≡ all_steps (binarised_of rs T)) c.list-2.ensures c.unit_steps-steps.ensures;
       chains = subst (λ (l : List UnitStep). (B : Binarised) → B.symbols ≤ 128 → Bounded B → EndsBelow B → map step_of l ≡ all_steps B → ChosenChains B t) c.list-3.ensures c.chains-chains.ensures;
-      strict = subst (λ (rs : List BinarisedRule). (T : ℕ) → T ≤ 128 → Bounded (binarised_of rs T) → Reached (binarised_of rs T) t → Holds (strict_rules (binarised_of rs T)) s) c.list-4.ensures c.all_strict.ensures;
+      strict = subst (λ (rs : List BinarisedRule). (T : ℕ) → T ≤ 128 → Bounded (binarised_of rs T) → Reached (binarised_of rs T) t → Holds (strict_rules (binarised_of rs T)) s) c.list-4.ensures c.all-strict.ensures;
     }

@@ -7,7 +7,7 @@ use Rattle.programs.proofs.rule_text.items_text.Goals as goal
 
 pub loop-item-preserved : goal.loop-item-preserved
 loop-item-preserved c =
-    c.in-ok-push-str.ensures.bytes ∙ joined c.loop-item.invariant (c.as-str.ensures.value ∙ c.in-ok-text.ensures)
+    c.in_ok-push_str.ensures.bytes ∙ joined c.loop-item.invariant (c.as_str.ensures.value ∙ c.in_ok-text.ensures)
     ∙ item_more c.args.items.now c.loop-item.item-index c.loop-item-test.true
 
 pub returns : goal.returns

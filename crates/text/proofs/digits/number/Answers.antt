@@ -15,8 +15,8 @@ split d t h = (grind (arith, nat_tests), grind (arith, nat_tests), grind (arith,
 at_digit : (ds : List ℕ) (i : ℕ) → i < length ds → all_digits (drop i ds) ≡ true → (48 ≤ get_or ds i 0) × (get_or ds i 0 ≤ 57) × (all_digits (drop (i + 1) ds) ≡ true)
 at_digit ds i h e = split (get_or ds i 0) (all_digits (drop (i + 1) ds)) (sym (at_drop_more all_digits ds i 0 h) ∙ e)
 
-pub overflow-sub-n : goal.overflow-sub-n
-overflow-sub-n c = (at_digit c.args.digits.now c.loop-d.d-index c.loop-d-test.true c.loop-d.invariant.2).0
+pub overflow_sub-n : goal.overflow_sub-n
+overflow_sub-n c = (at_digit c.args.digits.now c.loop-d.d-index c.loop-d-test.true c.loop-d.invariant.2).0
 
 pub returns-then-n-limit : goal.returns-then-n-limit
 returns-then-n-limit c =

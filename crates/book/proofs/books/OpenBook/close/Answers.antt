@@ -4,8 +4,8 @@ use Rattle.book.proofs.Props.{admitted_of}
 use Rattle.book.proofs.Closed.{closed_are}
 use Rattle.book.proofs.books.OpenBook.close.Goals as goal
 
-pub invariant-of-result : goal.invariant-of-result
-invariant-of-result g c = (search rules, (∣ c.convert-form.ensures ∣₁, tt))
+pub invariant_of-result : goal.invariant_of-result
+invariant_of-result g c = (search rules, (∣ c.convert-form.ensures ∣₁, tt))
 
 pub returns : goal.returns
 returns g c =

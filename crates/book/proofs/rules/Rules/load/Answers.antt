@@ -10,14 +10,14 @@ use Rattle.book.proofs.Loading.{line_on, line_stops, text_ends}
 use Rattle.book.proofs.rules.Rules.load.Goals as goal
 use Rattle.book.proofs.rules.Rules.load.Goals.{then-offered, else-offered}
 
-pub returns-in-err-offered : goal.returns-in-err-offered
-returns-in-err-offered c =
+pub returns-in_err-offered : goal.returns-in_err-offered
+returns-in_err-offered c =
     let p = err_from_is_err_and c.from-residual.result c.from-residual.ensures.1 in
-    let h = c.in-err-offered.ensures in
-    let f = c.in-err-offered.field-0.0 in
+    let h = c.in_err-offered.ensures in
+    let f = c.in_err-offered.field-0.0 in
     let T = c.args.self.now.patterns in
     let xs = c.args.text.now in
-    let e = c.line-end-end.result in
+    let e = c.line_end-end.result in
     let b = c.loop-from.self in
     let z : e - 0 ≡ e = omega arith in
     let n = c.loop-from.lines in
@@ -25,22 +25,22 @@ returns-in-err-offered c =
     let ws = words c.loop-from.from (drop c.loop-from.from t) in
     let stops = h.says n ∙ ap (λ P. offer_line P (held b) n (first_place ws) (line (length t) ws)) c.loop-from.invariant.2 in
     rw (p.1, p.2) (record {
-      says = sym (line_stops T xs t c.loop-from.from e (omega arith) c.line-end-end.ensures (ap (λ m. take m xs) z) (load T (held c.args.self.now) xs) (held b) (held c.load-line.new.self) n (load_number f) (load_place f) (c.loop-from.invariant.3 (omega arith)) stops);
+      says = sym (line_stops T xs t c.loop-from.from e (omega arith) c.line_end-end.ensures (ap (λ m. take m xs) z) (load T (held c.args.self.now) xs) (held b) (held c.load_line.new.self) n (load_number f) (load_place f) (c.loop-from.invariant.3 (omega arith)) stops);
       over = h.over ∙ c.loop-from.invariant.2;
     })
 
 pub loop-from-preserved : goal.loop-from-preserved
 loop-from-preserved c =
-    let h = c.in-ok-offered.ensures in
+    let h = c.in_ok-offered.ensures in
     let T = c.args.self.now.patterns in
     let xs = c.args.text.now in
-    let e = c.line-end-end.result in
+    let e = c.line_end-end.result in
     let b = c.loop-from.self in
     let n = c.loop-from.lines in
     let t = take (e - 0) xs in
     let ws = words c.loop-from.from (drop c.loop-from.from t) in
     let z : e - 0 ≡ e = omega arith in
-    let is = held c.load-line.new.self in
+    let is = held c.load_line.new.self in
     let done : taken is c.if-offered.lines ≡ offer_line T (held b) n (first_place ws) (line (length t) ws) = elim c.if-offered.branch [
       | then-offered w ↦
           let k : c.if-offered.lines ≡ suc n = omega (arith, w.lines-is) in
@@ -48,12 +48,12 @@ loop-from-preserved c =
       | else-offered w ↦
           ap (taken is) w.lines-is ∙ ap (λ (v : Bool). line_is n is (Ok v)) (sym w.if-offered.false) ∙ h.says n ∙ ap (λ P. offer_line P (held b) n (first_place ws) (line (length t) ws)) c.loop-from.invariant.2
     ] in
-    let rest = line_on T xs t c.loop-from.from e (omega arith) c.line-end-end.ensures (ap (λ n. take n xs) z) (load T (held c.args.self.now) xs) (held b) is n c.if-offered.lines (c.loop-from.invariant.3 (omega arith)) done in
+    let rest = line_on T xs t c.loop-from.from e (omega arith) c.line_end-end.ensures (ap (λ n. take n xs) z) (load T (held c.args.self.now) xs) (held b) is n c.if-offered.lines (c.loop-from.invariant.3 (omega arith)) done in
     let few : c.if-offered.lines ≤ e + 1 = elim c.if-offered.branch [
-      | then-offered w ↦ omega (arith, w.lines-is, c.line-end-end.ensures.later, c.loop-from.invariant.0)
-      | else-offered w ↦ omega (arith, w.lines-is, c.line-end-end.ensures.later, c.loop-from.invariant.0)
+      | then-offered w ↦ omega (arith, w.lines-is, c.line_end-end.ensures.later, c.loop-from.invariant.0)
+      | else-offered w ↦ omega (arith, w.lines-is, c.line_end-end.ensures.later, c.loop-from.invariant.0)
     ] in
-    (few, omega (arith, c.line-end-end.ensures.inside), h.over ∙ c.loop-from.invariant.2, rest.0, rest.1)
+    (few, omega (arith, c.line_end-end.ensures.inside), h.over ∙ c.loop-from.invariant.2, rest.0, rest.1)
 
 pub returns : goal.returns
 returns c =

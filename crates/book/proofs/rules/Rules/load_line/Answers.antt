@@ -21,7 +21,7 @@ returns-in-Ok c =
     let ws = words c.args.from (drop c.args.from xs) in
     let l = c.in-Some.line in
     let q = offered_rule l c.head.result c.right.result.now c.cost.result c.head.ensures c.right.ensures c.cost.ensures in
-    let o = ap rule q ∙ ap (λ (v : Option RuleLine). line_said (Ok v)) (sym c.in-Some.is) ∙ c.in-ok-line.ensures in
+    let o = ap rule q ∙ ap (λ (v : Option RuleLine). line_said (Ok v)) (sym c.in-Some.is) ∙ c.in_ok-line.ensures in
     let s = c.in-Ok.ensures.says in
     record {
       says = λ n. line_admitted b.patterns (held b) (held c.offer.new.self) n (first_place ws) (line (length xs) ws) (written c.head.result c.right.result.now c.cost.result) o s.0 s.2;
@@ -36,10 +36,10 @@ returns-in-Err c =
     let l = c.in-Some.line in
     let p = written c.head.result c.right.result.now c.cost.result in
     let q = offered_rule l c.head.result c.right.result.now c.cost.result c.head.ensures c.right.ensures c.cost.ensures in
-    let o = ap rule q ∙ ap (λ (v : Option RuleLine). line_said (Ok v)) (sym c.in-Some.is) ∙ c.in-ok-line.ensures in
+    let o = ap rule q ∙ ap (λ (v : Option RuleLine). line_said (Ok v)) (sym c.in-Some.is) ∙ c.in_ok-line.ensures in
     let s = c.in-Err.ensures.says in
     let some : refusal b.patterns (held b) p ≡ 0 → ⊥ = λ z. omega (arith, s.0, some_refusal c.in-Err.field-0) in
     record {
-      says = λ n. ap (stopped (held c.offer.new.self) 24) c.first-word-place.ensures ∙ line_refused b.patterns (held b) (held c.offer.new.self) n (first_place ws) (line (length xs) ws) p o some (ap held s.1);
+      says = λ n. ap (stopped (held c.offer.new.self) 24) c.first_word_place.ensures ∙ line_refused b.patterns (held b) (held c.offer.new.self) n (first_place ws) (line (length xs) ws) p o some (ap held s.1);
       over = c.in-Err.ensures.over;
     }

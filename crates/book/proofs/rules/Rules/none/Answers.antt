@@ -2,5 +2,5 @@ use Rattle.std.proofs.Common.{refl, arith}
 use Rattle.book.proofs.NoRules.{admitted_without_rules}
 use Rattle.book.proofs.rules.Rules.none.Goals as goal
 
-pub invariant-of-result : goal.invariant-of-result
-invariant-of-result c = (refl, (omega arith, (∣ admitted_without_rules c.args.patterns c.requires ∣₁, tt)))
+pub invariant_of-result : goal.invariant_of-result
+invariant_of-result c = (refl, (omega arith, (∣ admitted_without_rules c.args.patterns c.requires ∣₁, tt)))

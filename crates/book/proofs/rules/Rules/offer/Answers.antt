@@ -60,21 +60,21 @@ complete_pushed : (b : Rules) (p : Written) (row : Production) (f : StrictForm) 
     → f.strict.complete ≡ leb (strict_then b.patterns (held b) p) 1024
 complete_pushed b p row f {n} is h form e = form.strict.1 ∙ ap (λ l. leb (length (strict_rules (binarised (book b.patterns l)))) 1024) (lent b p row n is h e)
 
-pub some-unknown-requires : goal.some-unknown-requires
-some-unknown-requires c = let b = c.args.self.now in (admitted_of (rows_book (take b.count b.rows) b.patterns) b.admitted).sound.few_patterns
+pub some_unknown-requires : goal.some_unknown-requires
+some_unknown-requires c = let b = c.args.self.now in (admitted_of (rows_book (take b.count b.rows) b.patterns) b.admitted).sound.few_patterns
 
 pub returns-then-at-ge-RULES : goal.returns-then-at-ge-RULES
 returns-then-at-ge-RULES c =
     let b = c.args.self.now in
     let p = written c.args.head c.args.items.now c.args.cost in
-    let four = past b p c.in-Some.rule c.in-Some.ensures.0 (omega (arith, c.if-head-ge-HEADS.false)) c.in-Some.ensures.1 c.if-some-unknown.ensures c.if-some-same.ensures in
+    let four = past b p c.in-Some.rule c.in-Some.ensures.0 (omega (arith, c.if-head-ge-HEADS.false)) c.in-Some.ensures.1 c.if-some_unknown.ensures c.if-some_same.ensures in
     record { says = (meets_five b.patterns (held b) p four (omega (arith, many b)), refl); over = refl }
 
-pub returns-then-all-tails-gt-TAILS : goal.returns-then-all-tails-gt-TAILS
-returns-then-all-tails-gt-TAILS c =
+pub returns-then-all_tails-gt-TAILS : goal.returns-then-all_tails-gt-TAILS
+returns-then-all_tails-gt-TAILS c =
     let b = c.args.self.now in
     let p = written c.args.head c.args.items.now c.args.cost in
-    let four = past b p c.in-Some.rule c.in-Some.ensures.0 (omega (arith, c.if-head-ge-HEADS.false)) c.in-Some.ensures.1 c.if-some-unknown.ensures c.if-some-same.ensures in
+    let four = past b p c.in-Some.rule c.in-Some.ensures.0 (omega (arith, c.if-head-ge-HEADS.false)) c.in-Some.ensures.1 c.if-some_unknown.ensures c.if-some_same.ensures in
     let t = tails_pushed b p c.in-Some.rule c.all_tails.result c.in-Some.ensures.0 c.if-at-ge-RULES.false c.all_tails.ensures in
     record { says = (meets_six b.patterns (held b) p four (omega (arith, many b)) (omega (arith, t)), refl); over = refl }
 
@@ -82,7 +82,7 @@ pub convert-requires : goal.convert-requires
 convert-requires c =
     let b = c.args.self.now in
     let p = written c.args.head c.args.items.now c.args.cost in
-    let four = past b p c.in-Some.rule c.in-Some.ensures.0 (omega (arith, c.if-head-ge-HEADS.false)) c.in-Some.ensures.1 c.if-some-unknown.ensures c.if-some-same.ensures in
+    let four = past b p c.in-Some.rule c.in-Some.ensures.0 (omega (arith, c.if-head-ge-HEADS.false)) c.in-Some.ensures.1 c.if-some_unknown.ensures c.if-some_same.ensures in
     let t = tails_pushed b p c.in-Some.rule c.all_tails.result c.in-Some.ensures.0 c.if-at-ge-RULES.false c.all_tails.ensures in
     sound_lent b p c.in-Some.rule c.in-Some.ensures.0 c.if-at-ge-RULES.false (omega arith) (sound_pushed b p four (omega arith) c.if-at-ge-RULES.false (omega (arith, t)))
 
@@ -90,17 +90,17 @@ pub returns-then-not-complete : goal.returns-then-not-complete
 returns-then-not-complete c =
     let b = c.args.self.now in
     let p = written c.args.head c.args.items.now c.args.cost in
-    let four = past b p c.in-Some.rule c.in-Some.ensures.0 (omega (arith, c.if-head-ge-HEADS.false)) c.in-Some.ensures.1 c.if-some-unknown.ensures c.if-some-same.ensures in
+    let four = past b p c.in-Some.rule c.in-Some.ensures.0 (omega (arith, c.if-head-ge-HEADS.false)) c.in-Some.ensures.1 c.if-some_unknown.ensures c.if-some_same.ensures in
     let t = tails_pushed b p c.in-Some.rule c.all_tails.result c.in-Some.ensures.0 c.if-at-ge-RULES.false c.all_tails.ensures in
     let f = complete_pushed b p c.in-Some.rule c.convert.result c.in-Some.ensures.0 c.if-at-ge-RULES.false c.convert.ensures (omega arith) in
     let s = leb-false (strict_then b.patterns (held b) p) 1024 (sym f ∙ sym c.complete.ensures ∙ c.if-not-complete.true) in
     record { says = (meets_seven b.patterns (held b) p four (omega (arith, many b)) (omega (arith, t)) s, refl); over = refl }
 
-pub invariant-of-self : goal.invariant-of-self
-invariant-of-self c =
+pub invariant_of-self : goal.invariant_of-self
+invariant_of-self c =
     let b = c.args.self.now in
     let p = written c.args.head c.args.items.now c.args.cost in
-    let four = past b p c.in-Some.rule c.in-Some.ensures.0 (omega (arith, c.if-head-ge-HEADS.false)) c.in-Some.ensures.1 c.if-some-unknown.ensures c.if-some-same.ensures in
+    let four = past b p c.in-Some.rule c.in-Some.ensures.0 (omega (arith, c.if-head-ge-HEADS.false)) c.in-Some.ensures.1 c.if-some_unknown.ensures c.if-some_same.ensures in
     let t = tails_pushed b p c.in-Some.rule c.all_tails.result c.in-Some.ensures.0 c.if-at-ge-RULES.false c.all_tails.ensures in
     let f = complete_pushed b p c.in-Some.rule c.convert.result c.in-Some.ensures.0 c.if-at-ge-RULES.false c.convert.ensures (omega arith) in
     let s = leb-true (strict_then b.patterns (held b) p) 1024 (sym f ∙ sym c.complete.ensures ∙ c.if-not-complete.false) in
@@ -111,7 +111,7 @@ pub returns : goal.returns
 returns c =
     let b = c.args.self.now in
     let p = written c.args.head c.args.items.now c.args.cost in
-    let four = past b p c.in-Some.rule c.in-Some.ensures.0 (omega (arith, c.if-head-ge-HEADS.false)) c.in-Some.ensures.1 c.if-some-unknown.ensures c.if-some-same.ensures in
+    let four = past b p c.in-Some.rule c.in-Some.ensures.0 (omega (arith, c.if-head-ge-HEADS.false)) c.in-Some.ensures.1 c.if-some_unknown.ensures c.if-some_same.ensures in
     let t = tails_pushed b p c.in-Some.rule c.all_tails.result c.in-Some.ensures.0 c.if-at-ge-RULES.false c.all_tails.ensures in
     let f = complete_pushed b p c.in-Some.rule c.convert.result c.in-Some.ensures.0 c.if-at-ge-RULES.false c.convert.ensures (omega arith) in
     let s = leb-true (strict_then b.patterns (held b) p) 1024 (sym f ∙ sym c.complete.ensures ∙ c.if-not-complete.false) in

@@ -6,8 +6,8 @@ use Rattle.book.proofs.Held.{many}
 use Rattle.book.proofs.Striking.{some_held, held_struck, struck_admitted}
 use Rattle.book.proofs.rules.Rules.strike.Goals as goal
 
-pub invariant-of-self : goal.invariant-of-self
-invariant-of-self c =
+pub invariant_of-self : goal.invariant_of-self
+invariant_of-self c =
     let b = c.args.self.now in
     (b.sized, (omega (arith, b.few), (struck_admitted b (omega arith), tt)))
 

@@ -14,7 +14,7 @@ returns g c =
     let means = c.symbols-symbols.ensures.means in
     let held = c.held-n.ensures in
     let long : column_place S (was.held.events + 2) ≤ length was.weights.now =
-    omega (arith, c.column_place.ensures ∙ ap₂ (λ a b. column_place a (b + 2)) means held, c.if-self-column-place.false) in
+    omega (arith, c.column_place.ensures ∙ ap₂ (λ a b. column_place a (b + 2)) means held, c.if-self-column_place.false) in
     record {
       says = (
         no_refusal S (length was.weights.now) was.held.events (omega (arith, c.if-n-ge-EVENTS.false, held)) long,

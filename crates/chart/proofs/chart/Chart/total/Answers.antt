@@ -12,7 +12,7 @@ returns-then-n-eq0 g c es h =
     let M = g.W.Weighing.ops in
     let L = g.met.W.Weighing.semiring in
     total_is W (book_sound k.book.now) M L fits es _
-    (total_nothing W (book_sound k.book.now) M L fits es c.empty-total.result (h.many ∙ sym c.held-n.ensures ∙ c.if-n-eq0.true) (c.empty-total.ensures fits))
+    (total_nothing W (book_sound k.book.now) M L fits es c.empty_total.result (h.many ∙ sym c.held-n.ensures ∙ c.if-n-eq0.true) (c.empty_total.ensures fits))
 
 pub returns : goal.returns
 returns g c es h =

@@ -3,5 +3,5 @@ use Rattle.conversion.specs.declared.chain.Chain.TheVariants.{Absent}
 use Rattle.conversion.proofs.Arrays.{square_replicate}
 use Rattle.conversion.proofs.chain.Chains.none.Goals as goal
 
-pub invariant-of-result : goal.invariant-of-result
-invariant-of-result c = (refl, ((square_replicate 128 Absent).1, tt))
+pub invariant_of-result : goal.invariant_of-result
+invariant_of-result c = (refl, ((square_replicate 128 Absent).1, tt))

@@ -11,13 +11,13 @@ returns-in-Binary c =
     let z = c.in-Binary.z in
     let h : ℕ → Bool = λ x. is_some (get_or c.args.nullable.now.brought x None) in
     let was = steps_of c.args.self.now in
-    let is = steps_of c.push-if-in-Binary.new.self in
+    let is = steps_of c.push_if-in-Binary.new.self in
     let first = c.holds.ensures in
     let second = c.holds-in-Binary.ensures in
-    let one = c.push-if.ensures.more in
-    let two = c.push-if-in-Binary.ensures.more in
+    let one = c.push_if.ensures.more in
+    let two = c.push_if-in-Binary.ensures.more in
     let joined = append_assoc was (cond (h z) (unit_step r.left r.number (the_right z) y ∷ []) []) (cond (h y) (unit_step r.left r.number (the_left y) z ∷ []) []) in
     record {
       more = subst (λ o. is ≡ was ++ steps_by h r.left r.number (right_side_of o)) (sym c.in-Binary.is) (search rules);
-      few = omega (arith, c.push-if.ensures.few, c.push-if-in-Binary.ensures.few);
+      few = omega (arith, c.push_if.ensures.few, c.push_if-in-Binary.ensures.few);
     }

@@ -3,8 +3,8 @@ use Rattle.std.proofs.lemmas.List.{length-set}
 use Rattle.text.proofs.Items.{item_more}
 use Rattle.text.proofs.rule_line.RuleLine.with_item.Goals as goal
 
-pub invariant-of-line : goal.invariant-of-line
-invariant-of-line c =
+pub invariant_of-line : goal.invariant_of-line
+invariant_of-line c =
     let l = c.args.self in
     (length-set l.items l.len c.args.item ∙ l.sized, (omega arith, tt))
 
