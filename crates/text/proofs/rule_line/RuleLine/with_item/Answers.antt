@@ -6,7 +6,7 @@ use Rattle.text.proofs.rule_line.RuleLine.with_item.Goals as goal
 pub invariant_of-line : goal.invariant_of-line
 invariant_of-line c =
     let l = c.args.self in
-    (length-set l.items l.len c.args.item ∙ l.sized, (omega arith, tt))
+    record { sized = length-set l.items l.len c.args.item ∙ l.sized; short = omega arith }
 
 pub returns : goal.returns
 returns c =
