@@ -5,7 +5,7 @@ use Rattle.book.proofs.Closed.{closed_are}
 use Rattle.book.proofs.books.OpenBook.close.Goals as goal
 
 pub invariant_of-result : goal.invariant_of-result
-invariant_of-result g c = (search rules, (∣ c.convert-form.ensures ∣₁, tt))
+invariant_of-result g c = record { over = search rules; formed = ∣ c.convert-form.ensures ∣₁ }
 
 pub returns : goal.returns
 returns g c =

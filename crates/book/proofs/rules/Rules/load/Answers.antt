@@ -12,7 +12,7 @@ use Rattle.book.proofs.rules.Rules.load.Goals.{then-offered, else-offered}
 
 pub returns-in_err-offered : goal.returns-in_err-offered
 returns-in_err-offered c =
-    let p = err_from_is_err_and c.from-residual.result c.from-residual.ensures.1 in
+    let p = err_from_is_err_and c.from_residual.result c.from_residual.ensures.1 in
     let h = c.in_err-offered.ensures in
     let f = c.in_err-offered.field-0.0 in
     let T = c.args.self.now.patterns in

@@ -3,4 +3,4 @@ use Rattle.book.proofs.NoRules.{admitted_without_rules}
 use Rattle.book.proofs.rules.Rules.none.Goals as goal
 
 pub invariant_of-result : goal.invariant_of-result
-invariant_of-result c = (refl, (omega arith, (∣ admitted_without_rules c.args.patterns c.requires ∣₁, tt)))
+invariant_of-result c = record { sized = refl; few = omega arith; admitted = ∣ admitted_without_rules c.args.patterns c.requires ∣₁ }

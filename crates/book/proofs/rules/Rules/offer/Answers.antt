@@ -105,7 +105,7 @@ invariant_of-self c =
     let f = complete_pushed b p c.in-Some.rule c.convert.result c.in-Some.ensures.0 c.if-at-ge-RULES.false c.convert.ensures (omega arith) in
     let s = leb-true (strict_then b.patterns (held b) p) 1024 (sym f ∙ sym c.complete.ensures ∙ c.if-not-complete.false) in
     let then : Admitted (book b.patterns (held b ++ (p ∷ []))) = record { sound = sound_pushed b p four (omega arith) c.if-at-ge-RULES.false (omega (arith, t)); few_strict = s } in
-    (length-set b.rows b.count c.in-Some.rule ∙ b.sized, (omega arith, (∣ subst (λ l. Admitted (book b.patterns l)) (sym (pushed b p c.in-Some.rule c.in-Some.ensures.0 c.if-at-ge-RULES.false)) then ∣₁, tt)))
+    record { sized = length-set b.rows b.count c.in-Some.rule ∙ b.sized; few = omega arith; admitted = ∣ subst (λ l. Admitted (book b.patterns l)) (sym (pushed b p c.in-Some.rule c.in-Some.ensures.0 c.if-at-ge-RULES.false)) then ∣₁ }
 
 pub returns : goal.returns
 returns c =

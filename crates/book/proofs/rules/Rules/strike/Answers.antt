@@ -9,7 +9,7 @@ use Rattle.book.proofs.rules.Rules.strike.Goals as goal
 pub invariant_of-self : goal.invariant_of-self
 invariant_of-self c =
     let b = c.args.self.now in
-    (b.sized, (omega (arith, b.few), (struck_admitted b (omega arith), tt)))
+    record { sized = b.sized; few = omega (arith, b.few); admitted = struck_admitted b (omega arith) }
 
 pub returns : goal.returns
 returns c =
