@@ -3,10 +3,11 @@ use Rattle.std.proofs.Common.{◌≡◌, sym, subst}
 use Rattle.conversion.specs.declared.form.StrictForm.{StrictForm}
 use Rattle.conversion.specs.Forms.{FormOf}
 use Rattle.book.specs.declared.rules.Rules.{Rules}
+use Rattle.book.specs.declared.alphabet.Alphabet.{Ghosts}
 use Rattle.book.specs.declared.books.ClosedBook.{ClosedBook}
 use Rattle.book.specs.Books.{closed_book}
 use Rattle.book.proofs.Formed.{form_of}
 use Rattle.chart.specs.Weights.{rules_book}
 
-pub kept_form : {A E P : Type 0} (b : ClosedBook A E P) (r : Rules) (f : StrictForm) → r ≡ b.rules → f ≡ b.form → FormOf (rules_book r) f
+pub kept_form : {A E P : Type 0} {G : Ghosts A E P} (b : ClosedBook A E P G) (r : Rules) (f : StrictForm) → r ≡ b.rules → f ≡ b.form → FormOf (rules_book r) f
 kept_form b r f e h = subst (FormOf (rules_book r)) (sym h) (subst (λ q. FormOf (rules_book q) b.form) (sym e) (form_of (closed_book b) b.form b.formed))

@@ -6,12 +6,13 @@ use Rattle.grammar.specs.Strict.{strict_rules}
 use Rattle.conversion.specs.Views.{strict_rule_of}
 use Rattle.conversion.specs.declared.form.StrictForm.{StrictForm}
 use Rattle.conversion.specs.declared.strict.StrictRule.{StrictRule}
+use Rattle.book.specs.declared.alphabet.Alphabet.{Ghosts}
 use Rattle.book.specs.declared.books.ClosedBook.{ClosedBook}
 use Rattle.book.specs.Books.{closed_book}
 use Rattle.book.proofs.Closed.{strict_kept, symbols_kept}
 use Rattle.book.proofs.Props.{admitted_of}
 
-module _ {A E P : Type 0} (b : ClosedBook A E P) where
+module _ {A E P : Type 0} {G : Ghosts A E P} (b : ClosedBook A E P G) where
   -- the rules that its form has are its strict rules
   pub rules_are : (f : StrictForm) (l : List StrictRule) → f ≡ b.form → l ≡ take f.strict.count f.strict.rules → map strict_rule_of l ≡ strict_rules (binarised (closed_book b))
   rules_are f l e k = ap (map strict_rule_of) (k ∙ ap (λ (q : StrictForm). take q.strict.count q.strict.rules) e) ∙ strict_kept (closed_book b) b.form b.rules.admitted b.formed

@@ -2,6 +2,7 @@
 use Rattle.std.specs.Prelude.{◌≡◌, ℕ, ◌+◌, Bool, cond, ◌||◌, eqb, ltb, List, [], ◌∷◌, ◌++◌, length, Ok, Err, Result}
 use Rattle.grammar.specs.Semiring.{Ops}
 pub use Rattle.grammar.specs.Rooms.{feed_refusal}
+use Rattle.book.specs.declared.alphabet.Alphabet.{Ghosts}
 use Rattle.chart.specs.declared.chart.Chart.{Chart}
 use Rattle.chart.specs.declared.fault.FeedFault.{FeedFault}
 use Rattle.chart.specs.Faults.{feed_number}
@@ -9,12 +10,12 @@ use Rattle.chart.specs.Table.{column_place, SameOutside}
 use Rattle.chart.specs.Events.{chart_symbols, Holds}
 
 -- that of this chart
-abbrev pub chart_refusal : {A K E P V U : Type 0} → Chart A K E P V U → ℕ
+abbrev pub chart_refusal : {A K E P V U : Type 0} {G : Ghosts A E P} → Chart A K E P V U G → ℕ
 chart_refusal c = feed_refusal (chart_symbols c) (length c.weights.now) c.held.events
 
 -- an event was fed: it is answered how many events are held then, whatever events the chart held it holds with this one at the end, and
 -- no weight outside the column of the new event has changed; or it is refused, and the table and the number of events are as before
-abbrev pub Fed : {A K E P V U : Type 0} → Ops V → (P → E → Bool) → E → Chart A K E P V U → Chart A K E P V U → Result ℕ FeedFault → Type 0
+abbrev pub Fed : {A K E P V U : Type 0} {G : Ghosts A E P} → Ops V → (P → E → Bool) → E → Chart A K E P V U G → Chart A K E P V U G → Result ℕ FeedFault → Type 0
 Fed M test event was is (Ok r) = (chart_refusal was ≡ 0) × (r ≡ is.held.events) × (is.held.events ≡ was.held.events + 1)
     × ((es : List _) → Holds M test was es → Holds M test is (es ++ (event ∷ [])))
     × SameOutside M.zero (column_place (chart_symbols was) (was.held.events + 1)) (column_place (chart_symbols was) (was.held.events + 2)) was.weights.now is.weights.now

@@ -16,8 +16,8 @@ pub add-requires : goal.add-requires
 unfolding none
 add-requires g c =
     let b = c.args.book.now in
-    let l = c.strict_rule-items.result.now in
-    let e = rules_are b c.form.result.now l c.form.ensures c.strict_rule-items.ensures in
+    let l = c.strict-rule-items.result.now in
+    let e = rules_are b c.form.result.now l c.form.ensures c.strict-rule-items.ensures in
     let s = symbol_within (closed_book b) (book_sound b) l c.loop-i.i none e c.loop-i-test.true in
     (omega (arith, s, c.requires.book.symbols), (omega (arith, c.requires.room.0, c.loop-i.auto.weights), c.requires.room.1))
 
@@ -30,8 +30,8 @@ pub loop-i-preserved : goal.loop-i-preserved
 unfolding none
 loop-i-preserved g c =
     let b = c.args.book.now in
-    let l = c.strict_rule-items.result.now in
-    let e = rules_are b c.form.result.now l c.form.ensures c.strict_rule-items.ensures in
+    let l = c.strict-rule-items.result.now in
+    let e = rules_are b c.form.result.now l c.form.ensures c.strict-rule-items.ensures in
     events_more (closed_book b) g.W.Weighing.ops g.met.W.Weighing.semiring (closed_fits g.A.Alphabet.test b) c.args.event c.args.symbols c.args.cell
     c.args.each.now l c.loop-i.i none c.peek.result c.event_weight-weight.result c.args.weights.now c.loop-i.weights c.add.new.weights
     c.requires.book.weights e c.loop-i-test.true c.peek.ensures c.event_weight-weight.ensures c.add.ensures c.loop-i.invariant
@@ -39,7 +39,7 @@ loop-i-preserved g c =
 pub returns : goal.returns
 returns g c =
     let b = c.args.book.now in
-    let l = c.strict_rule-items.result.now in
-    let e = rules_are b c.form.result.now l c.form.ensures c.strict_rule-items.ensures in
+    let l = c.strict-rule-items.result.now in
+    let e = rules_are b c.form.result.now l c.form.ensures c.strict-rule-items.ensures in
     events_all (closed_book b) g.W.Weighing.ops g.met.W.Weighing.semiring (closed_fits g.A.Alphabet.test b) c.args.event c.args.symbols c.args.cell
     c.loop-i.i c.args.weights.now c.loop-i.weights c.requires.book.symbols (omega (arith, c.loop-i-test.false, ap length e, length-map l strict_rule_of)) c.loop-i.invariant

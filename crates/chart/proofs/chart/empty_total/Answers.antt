@@ -15,6 +15,6 @@ nullable_weights-bank-requires g c = record {
 pub returns : goal.returns
 returns g c fits =
     let M = g.W.Weighing.ops in
-    let f = g.Values.Bank.item c.nullable_weights-bank.result in
+    let f = g.W.Values.Bank.item c.nullable_weights-bank.result in
     let h = subst (λ (W : Book). NullableWeights M W f) (ap rules_book c.rules.ensures) c.nullable_weights-bank.ensures in
     empty_weight M (closed_book c.args.book.now) fits f h _ c.get.result c.get.ensures (omega arith)

@@ -15,7 +15,7 @@ strict_weights-requires g c = (
   search rules,
   (
     kept_form c.args.book.now c.rules-2.result.now c.form-2.result.now c.rules-2.ensures c.form-2.ensures,
-    subst (λ (W : Book). NullableWeights g.W.Weighing.ops W (g.Values.Bank.item c.nullable_weights-bank.result)) (ap rules_book (c.rules.ensures ∙ sym c.rules-2.ensures)) c.nullable_weights-bank.ensures,
+    subst (λ (W : Book). NullableWeights g.W.Weighing.ops W (g.W.Values.Bank.item c.nullable_weights-bank.result)) (ap rules_book (c.rules.ensures ∙ sym c.rules-2.ensures)) c.nullable_weights-bank.ensures,
   ),
 )
 

@@ -57,14 +57,14 @@ loop-pair-preserved g c =
     let now_of : (c.if-pair-symbol.symbol ≡ p.symbol) × SomePairs M L S cell left ps i c.if-pair-symbol.symbol c.if-pair-symbol.sum was c.if-pair-symbol.weights =
     elim c.if-pair-symbol.branch [
       | then-pair-symbol w ↦ (
-        omega (arith, w.symbol_is),
+        omega (arith, w.symbol-is),
         sum_added M L S cell left ps i c.loop-pair.symbol c.if-pair-symbol.symbol c.loop-pair.sum c.if-pair-symbol.sum was c.loop-pair.weights w.add.new.weights c.if-pair-symbol.weights
-            (omega (arith, w.symbol_is, b.0)) (w.sum-is ∙ w.zero-sum-then-pair-symbol.ensures) w.weights-is w.add.ensures c.loop-pair.invariant,
+            (omega (arith, w.symbol-is, b.0)) (w.sum-is ∙ w.zero-sum-then-pair-symbol.ensures) w.weights-is w.add.ensures c.loop-pair.invariant,
       )
       | else-pair-symbol w ↦ (
-        w.symbol_is ∙ sym w.if-pair-symbol.false,
+        w.symbol-is ∙ sym w.if-pair-symbol.false,
         sum_kept M L S cell left ps i c.loop-pair.symbol c.if-pair-symbol.symbol c.loop-pair.sum c.if-pair-symbol.sum was c.loop-pair.weights c.if-pair-symbol.weights
-            w.symbol_is w.sum-is w.weights-is c.loop-pair.invariant,
+            w.symbol-is w.sum-is w.weights-is c.loop-pair.invariant,
       )
     ] in
     one_pair M L S cell left ps i p c.if-pair-symbol.symbol left c.if-pair-symbol.sum c.product.result c.plus-sum.result was c.if-pair-symbol.weights
