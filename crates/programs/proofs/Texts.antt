@@ -1,6 +1,6 @@
 -- Words with a space before each.
 use Rattle.std.proofs.Common.{◌≡◌, ℕ, ◌+◌, ◌<◌, List, [], ◌∷◌, ◌++◌, map, length, get_or, take, decimal, sym, refl, ap, ◌∙◌, append_assoc, append-nil}
-use mathlib.Core.List.{map_append}
+use mathlib.Core.List.{map-append}
 use Rattle.std.proofs.lemmas.List.{take_more}
 use Rattle.grammar.specs.Lists.{each}
 use Rattle.grammar.specs.Productions.{Production}
@@ -25,8 +25,8 @@ item_more items i h =
     let k = item_kind (get_or items i 0) in
     let before = map word_text (map item_kind (take i items)) in
     sym (ap (λ l. each spaced_word (map word_text (map item_kind l))) (take_more items i 0 h)
-    ∙ ap (λ l. each spaced_word (map word_text l)) (map_append item_kind (take i items) (get_or items i 0 ∷ []))
-    ∙ ap (each spaced_word) (map_append word_text (map item_kind (take i items)) (k ∷ []))
+    ∙ ap (λ l. each spaced_word (map word_text l)) (map-append item_kind (take i items) (get_or items i 0 ∷ []))
+    ∙ ap (each spaced_word) (map-append word_text (map item_kind (take i items)) (k ∷ []))
     ∙ each_append before (word_text k ∷ []) ∙ ap (λ l. each spaced_word before ++ l) (append-nil (spaced_word (word_text k))))
 
 -- the text of a line: its head and its arrow, its right side, its cost
@@ -38,5 +38,5 @@ line_parts p front right last all f r l a =
     let c = word_text (cost p.cost) in
     a ∙ joined (joined f r) (l ∙ sym (append-nil (spaced_word c)))
     ∙ append_assoc (h ++ (32 ∷ 45 ∷ 62 ∷ [])) (each spaced_word rs) (each spaced_word (c ∷ []))
-    ∙ ap (λ t. (h ++ (32 ∷ 45 ∷ 62 ∷ [])) ++ t) (sym (each_append rs (c ∷ [])) ∙ ap (each spaced_word) (sym (map_append word_text (right_kinds p.right) (cost p.cost ∷ []))))
+    ∙ ap (λ t. (h ++ (32 ∷ 45 ∷ 62 ∷ [])) ++ t) (sym (each_append rs (c ∷ [])) ∙ ap (each spaced_word) (sym (map-append word_text (right_kinds p.right) (cost p.cost ∷ []))))
     ∙ append_assoc h (32 ∷ 45 ∷ 62 ∷ []) (each spaced_word (map word_text (right_kinds p.right ++ (cost p.cost ∷ []))))

@@ -16,5 +16,5 @@ returns c =
     let first = c.in_ok-push_str.ensures.bytes ∙ ap (λ (l : List ℕ). string_bytes c.in_ok-out.out ++ l) c.as_str.ensures.value in
     let all = c.in_ok-push_str-2.ensures.bytes ∙ joined first c.as_str-2.ensures.value in
     let e : string_bytes c.push_str-2.new.self ≡ line_text p = line_parts p (string_bytes c.in_ok-out.out) (string_bytes c.in_ok-right.right) (string_bytes c.in_ok-last.last) (string_bytes c.push_str-2.new.self) front right last all in
-    let low : p.cost ≤ 65535 = omega (arith, c.cost.ensures, c.cost.type-inv) in
+    let low : p.cost ≤ 65535 = omega (arith, c.cost.ensures, c.cost.type_inv) in
     record { line = e; loads = λ T rules h z. ap (load T rules) e ∙ round_trip T rules p h low z }
