@@ -9,14 +9,21 @@ use Rattle.chart.specs.Faults.{feed_number}
 use Rattle.chart.specs.Table.{column_place, SameOutside}
 use Rattle.chart.specs.Events.{chart_symbols, Holds}
 
--- that of this chart
+-- a feed to a chart that held n events: the number of events held then, and no weight outside the column of the new event has
+-- changed; or it is refused, and the table and the number of events are as before
+abbrev pub Fed : {V : Type 0} → V → ℕ → List V → ℕ → List V → ℕ → Result ℕ FeedFault → Type 0
+Fed d S was n is m (Ok r) = (feed_refusal S (length was) n ≡ 0) × (r ≡ n + 1) × (m ≡ n + 1)
+    × SameOutside d (column_place S (n + 1)) (column_place S (n + 2)) was is
+Fed d S was n is m (Err f) = (feed_refusal S (length was) n ≡ feed_number f) × (m ≡ n) × (is ≡ was)
+
+-- the refusal of a feed to this chart
 abbrev pub chart_refusal : {A K E P V U : Type 0} {G : Ghosts A E P} → Chart A K E P V U G → ℕ
 chart_refusal c = feed_refusal (chart_symbols c) (length c.weights.now) c.held.events
 
 -- an event was fed: it is answered how many events are held then, whatever events the chart held it holds with this one at the end, and
 -- no weight outside the column of the new event has changed; or it is refused, and the table and the number of events are as before
-abbrev pub Fed : {A K E P V U : Type 0} {G : Ghosts A E P} → Ops V → (P → E → Bool) → E → Chart A K E P V U G → Chart A K E P V U G → Result ℕ FeedFault → Type 0
-Fed M test event was is (Ok r) = (chart_refusal was ≡ 0) × (r ≡ is.held.events) × (is.held.events ≡ was.held.events + 1)
+abbrev pub FedEvent : {A K E P V U : Type 0} {G : Ghosts A E P} → Ops V → (P → E → Bool) → E → Chart A K E P V U G → Chart A K E P V U G → Result ℕ FeedFault → Type 0
+FedEvent M test event was is (Ok r) = (chart_refusal was ≡ 0) × (r ≡ is.held.events) × (is.held.events ≡ was.held.events + 1)
     × ((es : List _) → Holds M test was es → Holds M test is (es ++ (event ∷ [])))
     × SameOutside M.zero (column_place (chart_symbols was) (was.held.events + 1)) (column_place (chart_symbols was) (was.held.events + 2)) was.weights.now is.weights.now
-Fed M test event was is (Err f) = (chart_refusal was ≡ feed_number f) × (is.held.events ≡ was.held.events) × (is.weights.now ≡ was.weights.now)
+FedEvent M test event was is (Err f) = (chart_refusal was ≡ feed_number f) × (is.held.events ≡ was.held.events) × (is.weights.now ≡ was.weights.now)

@@ -1,5 +1,5 @@
 // A chart: a closed book, the caller's table of weights, and the number of events held.
-ghost use Rattle.std.specs.Prelude.{◌≡◌, ℕ, ◌+◌, Bool, List, [], ◌∷◌, ◌++◌, length};
+ghost use Rattle.std.specs.Prelude.{◌≡◌, ℕ, ◌+◌, ◌<◌, Bool, List, [], ◌∷◌, ◌++◌, length, slice_index_or};
 ghost use Rattle.grammar.specs.Binarise.{binarised};
 ghost use Rattle.grammar.specs.Weights.{total_of};
 ghost use Rattle.book.specs.Books.{closed_book, closed_fits};
@@ -7,7 +7,7 @@ ghost use Rattle.chart.specs.Table.{column_place, SameOutside, Room};
 ghost use Rattle.chart.specs.Weights.{StrictWeights};
 ghost use Rattle.chart.specs.Charts.{HoldsChart};
 ghost use Rattle.chart.specs.Events.{Holds, chart_book, chart_fits};
-ghost use Rattle.chart.specs.Feeds.{Fed};
+ghost use Rattle.chart.specs.Feeds.{Fed, FedEvent};
 ghost use Rattle.chart.specs.Totals.{TotalIs};
 
 use crate::cells::{column_place, peek};
@@ -68,7 +68,8 @@ fn fill<A: Alphabet, W: Weighing>(
 impl<'b, 'p, 't, A: Alphabet, W: Weighing> Chart<'b, 'p, 't, A, W> {
     // A chart of no events over the table, which it leaves as it is.
     pub fn cut(book: &'b ClosedBook<'p, A>, weights: &'t mut [W::Value]) -> Chart<'b, 'p, 't, A, W>
-        ensures none { Holds W.Weighing.ops A.Alphabet.test result [] }
+        ensures none { result.held.events ≡ 0 }
+        ensures holds { Holds W.Weighing.ops A.Alphabet.test result [] }
         ensures book { result.book.now ≡ book.now }
         ensures table { result.weights.now ≡ weights.old }
         ensures same { result.weights.ghost_name ≡ weights.entry.ghost_name }
@@ -89,7 +90,8 @@ impl<'b, 'p, 't, A: Alphabet, W: Weighing> Chart<'b, 'p, 't, A, W> {
 
     // One event more: how many are held then, or the refusal.
     pub fn feed(&mut self, event: A::Event) -> Result<usize, FeedFault>
-        ensures says { Fed W.Weighing.ops A.Alphabet.test event self.old self.new result }
+        ensures says { Fed W.Weighing.ops.zero self.old.book.now.form.binarised.symbols self.old.weights.now self.old.held.events self.new.weights.now self.new.held.events result }
+        ensures chart { FedEvent W.Weighing.ops A.Alphabet.test event self.old self.new result }
         ensures book { self.new.book ≡ self.old.book }
         ensures same { self.new.weights.ghost_name ≡ self.old.weights.ghost_name }
     {
@@ -106,7 +108,8 @@ impl<'b, 'p, 't, A: Alphabet, W: Weighing> Chart<'b, 'p, 't, A, W> {
 
     // Head 0's weight over all events held.
     pub fn total(&self) -> W::Value
-        ensures { (es : List A.Event) → Holds W.Weighing.ops A.Alphabet.test self.now es → TotalIs (chart_book self.now) W.Weighing.ops (chart_fits A.Alphabet.test self.now) es result }
+        ensures stands { 0 < self.now.held.events → result ≡ slice_index_or self.now.weights.now (column_place self.now.book.now.form.binarised.symbols self.now.held.events) W.Weighing.ops.zero }
+        ensures means { (es : List A.Event) → Holds W.Weighing.ops A.Alphabet.test self.now es → TotalIs (chart_book self.now) W.Weighing.ops (chart_fits A.Alphabet.test self.now) es result }
     {
         let n = self.held();
         if n == 0 {

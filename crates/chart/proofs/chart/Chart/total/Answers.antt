@@ -4,8 +4,8 @@ use Rattle.chart.proofs.OfBook.{book_sound}
 use Rattle.chart.proofs.Totalling.{total_is, total_nothing, total_cell}
 use Rattle.chart.proofs.chart.Chart.total.Goals as goal
 
-pub returns-then-n-eq0 : goal.returns-then-n-eq0
-returns-then-n-eq0 g c es h =
+pub returns-then-n-eq0-clause-means : goal.returns-then-n-eq0-clause-means
+returns-then-n-eq0-clause-means g c es h =
     let k = c.args.self.now in
     let W = chart_book k in
     let fits = chart_fits g.A.Alphabet.test k in
@@ -14,8 +14,8 @@ returns-then-n-eq0 g c es h =
     total_is W (book_sound k.book.now) M L fits es _
     (total_nothing W (book_sound k.book.now) M L fits es c.empty_total.result (h.many ∙ sym c.held-n.ensures ∙ c.if-n-eq0.true) (c.empty_total.ensures fits))
 
-pub returns : goal.returns
-returns g c es h =
+pub returns-clause-means : goal.returns-clause-means
+returns-clause-means g c es h =
     let k = c.args.self.now in
     let W = chart_book k in
     let fits = chart_fits g.A.Alphabet.test k in
