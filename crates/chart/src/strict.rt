@@ -66,7 +66,7 @@ fn chain_weight<W: Weighing, B: Bank<Value = W::Value>>(
 }
 
 // The weight of a strict rule: that of its chain and of its own rule.
-fn strict_weight<W: Weighing, B: Bank<Value = W::Value>>(
+pub(crate) fn strict_weight<W: Weighing, B: Bank<Value = W::Value>>(
     bank: &B,
     rules: &Rules,
     form: &StrictForm,
