@@ -9,7 +9,7 @@ use Rattle.grammar.specs.Lists.{Mem, each}
 use Rattle.grammar.specs.Productions.{Production}
 use Rattle.grammar.proofs.Lists.{map_mem, mem_append}
 use Rattle.text.specs.Kinds.{Kind, arrow, blank, head, pattern, cost, unknown, arrow_text, blank_text, lettered, kind}
-use Rattle.text.specs.Lines.{kinds, item_kind, right_kinds, Writable, front_kinds, word_text, spaced, line_text, Says}
+use Rattle.text.specs.Outcomes.{kinds, item_kind, right_kinds, Writable, front_kinds, word_text, spaced, line_text, Says}
 use Rattle.text.specs.Numbers.{is_digit, all_digits, is_numeral, decimal_after, decimal}
 use Rattle.text.specs.Words.{Piece, piece, ends_line, parts, words, AllAre}
 use Rattle.text.proofs.Spelled.{kind_arrow, kind_blank}

@@ -3,7 +3,7 @@ use Rattle.std.proofs.Common.{◌≡◌, ℕ, ◌<◌, ◌≤◌, ◌⊎◌, Lis
 use Rattle.std.proofs.lemmas.List.{take_all, take-take, take-append-le, length-take-le}
 use Rattle.std.proofs.lemmas.Bool.{cases_lt}
 use Rattle.text.specs.Kinds.{kind}
-use Rattle.text.specs.Lines.{Outcome, rule, written, misplaced, no_more, by, item_of, cost_of, cost_part, item_part, in_nine}
+use Rattle.text.specs.Outcomes.{Outcome, rule, written, misplaced, no_more, by, item_of, cost_of, cost_part, item_part, in_nine}
 use Rattle.text.specs.Words.{Piece}
 
 push_nine : (is : List ℕ) (i : ℕ) → take 9 (take 9 is ++ (i ∷ [])) ≡ take 9 (is ++ (i ∷ []))
@@ -21,7 +21,7 @@ nine_cost h is (w ∷ ws) = elim (cost_of (kind w.bytes)) as (λ (o : Option ℕ
     behind c [] = ap (λ l. rule (written h l c)) (take-take 9 9 is (omega arith))
     behind c (v ∷ vs) = refl
 
-nine_items : (h : ℕ) (is : List ℕ) (ws : List Piece) → in_nine (item_part h (take 9 is) ws) ≡ in_nine (item_part h is ws)
+pub nine_items : (h : ℕ) (is : List ℕ) (ws : List Piece) → in_nine (item_part h (take 9 is) ws) ≡ in_nine (item_part h is ws)
 unfolding item_part
 nine_items h is [] = nine_cost h is []
 nine_items h is (w ∷ ws) = elim (item_of (kind w.bytes)) as (λ (o : Option ℕ). in_nine (by o (cost_part h (take 9 is) (w ∷ ws)) (λ i. item_part h (take 9 is ++ (i ∷ [])) ws)) ≡ in_nine (by o (cost_part h is (w ∷ ws)) (λ i. item_part h (is ++ (i ∷ [])) ws))) [

@@ -3,7 +3,7 @@ pub mod digits;
 pub mod fault;
 pub mod lexer;
 pub mod reader;
+mod reading;
 pub mod rule_line;
 pub mod token;
-mod tokens;
 pub mod words;
