@@ -1,14 +1,14 @@
 -- What a line's words give by the stages of its reading is what they give part by part.
-use Rattle.std.proofs.Common.{◌≡◌, ℕ, ◌+◌, ◌<◌, ◌≤◌, Bool, true, false, cond, ltb, leb, ◌⊎◌, List, [], ◌∷◌, ◌++◌, length, take, drop, is_some, Some, None, Ok, Err, Option, Result, sym, refl, ap, ◌∙◌, subst, inl, inr, ⊎_elim, arith}
+use Rattle.std.proofs.Common.{◌≡◌, ℕ, ◌+◌, ◌<◌, ◌≤◌, Bool, true, false, cond, ltb, leb, List, [], ◌∷◌, ◌++◌, length, take, drop, Some, None, Ok, Err, Option, Result, sym, refl, ap, ◌∙◌, subst, ⊎_elim, arith}
 use Rattle.std.proofs.lemmas.List.{take_all, length-take}
 use Rattle.std.proofs.lemmas.Bool.{cases_lt, cond-true, cond-false, lt-ltb, le-ltb, le-leb, lt-leb}
 use Rattle.text.specs.Faults.{line_fault_number, line_fault_place}
-use Rattle.text.specs.Kinds.{Kind, arrow, blank, head, pattern, cost, unknown, kind, word_of, place_of, kind_of, Sound}
+use Rattle.text.specs.Kinds.{Kind, arrow, blank, head, pattern, cost, kind, word_of, place_of, kind_of}
 use Rattle.text.specs.Limits.{number_of}
-use Rattle.text.specs.Lines.{Said, said_of, said_result, bare_said, with_item, with_word, refused, outcome as ended_at, NextWord, NoWord, Reads}
+use Rattle.text.specs.Lines.{Said, said_result, bare_said, with_item, with_word, refused, outcome as ended_at, NextWord, Reads}
 use Rattle.text.specs.Lines.Reads.{ends, stops, reads}
 use Rattle.text.specs.Numbers.{decimal}
-use Rattle.text.specs.Outcomes.{Outcome, nothing, rule, fault, written, refusal_of, head_of, item_of, cost_of, is_arrow, is_blank, by, misplaced, no_more, cost_part, item_part, right_part, arrow_part, line, line_said, in_nine}
+use Rattle.text.specs.Outcomes.{Outcome, nothing, rule, fault, written, refusal_of, head_of, item_of, cost_of, is_arrow, is_blank, by, no_more, cost_part, item_part, right_part, arrow_part, line, line_said, in_nine}
 use Rattle.text.specs.Stages.{after}
 use Rattle.text.specs.Words.{Piece, piece, words}
 use Rattle.text.specs.declared.fault.LineFault.{LineFault}

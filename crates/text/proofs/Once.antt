@@ -1,10 +1,10 @@
-use Rattle.std.proofs.Common.{◌≡◌, ℕ, ◌+◌, ◌<◌, ◌≤◌, Bool, true, false, cond, T, ltb, ◌⊎◌, List, [], ◌∷◌, length, get_or, take, drop, is_some, Some, Err, Option, Result, sym, refl, ap, ◌∙◌, subst, inl, inr, ⊎_elim, arith, Bor}
+use Rattle.std.proofs.Common.{◌≡◌, ℕ, ◌+◌, ◌<◌, ◌≤◌, Bool, true, false, cond, T, ltb, List, [], ◌∷◌, length, get_or, take, drop, is_some, Some, Err, Option, Result, sym, refl, ap, ◌∙◌, subst, inl, inr, ⊎_elim, arith, Bor}
 use Rattle.std.proofs.lemmas.Bool.{cases_lt}
 use Rattle.text.specs.Faults.{line_fault_number, line_fault_place}
 use Rattle.text.specs.Kinds.{word_of, place_of, Sound, Known}
 use Rattle.text.specs.Limits.{number_of}
 use Rattle.text.specs.Numbers.{decimal}
-use Rattle.text.specs.Lines.{Said, with_item, with_head, with_word, refused, outcome, NextWord, NoWord, Reads}
+use Rattle.text.specs.Lines.{Said, with_item, with_head, with_word, refused, NextWord, NoWord, Reads}
 use Rattle.text.specs.Lines.Reads.{ends, stops, reads}
 use Rattle.text.specs.Stages.{after, after_head, after_pattern, after_cost}
 use Rattle.text.specs.Words.{parts, IsWord}

@@ -1,15 +1,14 @@
 -- How words are spelled.
-use Rattle.std.proofs.Common.{◌≡◌, ℕ, ◌-◌, ◌<◌, Bool, true, false, cond, T, ◌&&◌, eqb, ◌⊎◌, List, [], ◌∷◌, length, get_or, take, drop, Decides, sym, refl, ap, ◌∙◌, subst, inl, inr, ⊎_elim, arith, rules}
+use Rattle.std.proofs.Common.{◌≡◌, ℕ, ◌-◌, ◌<◌, true, false, cond, T, eqb, ◌⊎◌, List, [], ◌∷◌, length, get_or, take, drop, Decides, sym, refl, ap, ◌∙◌, subst, inl, inr, ⊎_elim, arith, rules}
 use Rattle.std.proofs.lemmas.Slice.Eq.{compares_Decides}
 use Rattle.std.proofs.lemmas.List.{take_rest}
 use Rattle.std.proofs.lemmas.Slice.{first_rest}
-use Rattle.std.proofs.lemmas.Bool.{cases_Bool, cases_eq, both_ways, and_parts, ne_eqb, cond-true, cond-false}
-use Rattle.std.proofs.lemmas.Bool.Decides.{nat_tests}
+use Rattle.std.proofs.lemmas.Bool.{cases_Bool, cases_eq, both_ways, ne_eqb, cond-true, cond-false}
 use Rattle.grammar.specs.Lists.{same_numbers}
 use Rattle.text.specs.Kinds.{Kind, arrow, blank, head, pattern, cost, unknown, arrow_text, blank_text, lettered as by_letter, spelled as by_spelling, kind, word_of, kind_of, Spelled, OfKind, Known, Lettered, Sound}
 use Rattle.text.specs.declared.token.Token.{Token}
 use Rattle.text.specs.declared.token.Token.TheVariants.{Arrow, Blank, Head, Pattern, Cost, Unknown}
-use Rattle.text.specs.Numbers.{is_digit, all_digits, is_numeral, decimal}
+use Rattle.text.specs.Numbers.{is_numeral, decimal}
 
 -- a list by its length and elements
 pub of_two : (w : List ℕ) (a b : ℕ) → length w ≡ 2 → get_or w 0 0 ≡ a → get_or w 1 0 ≡ b → w ≡ a ∷ (b ∷ [])
@@ -97,41 +96,7 @@ other_letter a n h p c =
     ∙ cond-false (eqb a 80) (pattern n) (cond (eqb a 35) (cost n) unknown) (ne_eqb a 80 p)
     ∙ cond-false (eqb a 35) (cost n) unknown (ne_eqb a 35 c)
 
-numeral_digits : (ds : List ℕ) → is_numeral ds ≡ true → all_digits ds ≡ true
-numeral_digits [] n = refl
-numeral_digits (b ∷ []) n = ap (λ t. t && true) n
-numeral_digits (b ∷ (c ∷ cs)) n = (and_parts _ (all_digits (b ∷ (c ∷ cs))) n).1
-
--- a word with a number
-abbrev pub numbered : Kind → Bool
-numbered arrow = false
-numbered blank = false
-numbered (head n) = true
-numbered (pattern n) = true
-numbered (cost n) = true
-numbered unknown = false
-
-pub digits_after : (w : List ℕ) → numbered (kind w) ≡ true → (0 < length w) × (all_digits (drop 1 w) ≡ true)
-unfolding kind
-digits_after w t = by_arrow (same_numbers w arrow_text) (same_numbers w blank_text) t
-  where
-    at : (w : List ℕ) → numbered (by_spelling w) ≡ true → (0 < length w) × (all_digits (drop 1 w) ≡ true)
-    at [] t = absurd (both_ways _ refl t)
-    at (a ∷ ds) t = elim (cases_Bool (is_numeral ds)) [
-      | inl n ↦ (omega arith, numeral_digits ds n)
-      | inr n ↦ absurd (both_ways _ (ap numbered (cond-false (is_numeral ds) (by_letter a (decimal ds)) unknown n)) t)
-    ]
-
-    by_arrow : (p q : Bool) → numbered (cond p arrow (cond q blank (by_spelling w))) ≡ true → (0 < length w) × (all_digits (drop 1 w) ≡ true)
-    by_arrow true q t = absurd (both_ways _ refl t)
-    by_arrow false true t = absurd (both_ways _ refl t)
-    by_arrow false false t = at w t
-
--- a token with a number, whose kind is its word's
-pub token_digits : (t u : Token) → kind_of t ≡ kind (word_of t) → t ≡ u → numbered (kind_of u) ≡ true → (0 < length (word_of u)) × (all_digits (drop 1 (word_of u)) ≡ true)
-token_digits t u k e n = digits_after (word_of u) (ap numbered (sym (subst (λ (v : Token). kind_of v ≡ kind (word_of v)) e k)) ∙ n)
-
--- a word is of the kind as which it is by_spelling
+-- a word is of the kind as which it is spelled
 pub of_kind : (w : List ℕ) → OfKind w
 unfolding kind
 of_kind w = record { is_kind = is; known = by_arrow (cases_Bool (same_numbers w arrow_text)) (cases_Bool (same_numbers w blank_text)) }

@@ -1,5 +1,5 @@
 -- What a word is.
-use Rattle.std.specs.Prelude.{◌≡◌, ℕ, Bool, true, cond, ◌⊎◌, List, [], ◌∷◌, drop, ◌==◌}
+use Rattle.std.specs.Prelude.{◌≡◌, ℕ, true, cond, ◌⊎◌, List, [], ◌∷◌, drop, ◌==◌}
 use Rattle.grammar.specs.Lists.{same_numbers}
 use Rattle.text.specs.Numbers.{is_numeral, decimal}
 use Rattle.text.specs.declared.token.Token.{Token}
