@@ -23,13 +23,13 @@ use Rattle.text.proofs.Spelled.{sound_kind}
 use Rattle.text.proofs.Wording.{word_first, word_none}
 
 -- a result of a reading as an outcome
-abbrev pub result_said : Result (Option Said) LineFault → Outcome
+abbrev result_said : Result (Option Said) LineFault → Outcome
 result_said (Ok None) = nothing
 result_said (Ok (Some l)) = rule (written l.head l.right l.cost)
 result_said (Err f) = fault (line_fault_number f) (line_fault_place f)
 
 -- what the rest of a line gives at a stage
-abbrev pub part : Stage → ℕ → Said → List Piece → Outcome
+abbrev part : Stage → ℕ → Said → List Piece → Outcome
 part Start end l ws = line end ws
 part AfterHead end l ws = arrow_part end l.head ws
 part AfterArrow end l ws = right_part end l.head ws
@@ -38,7 +38,7 @@ part AfterBlank end l ws = cost_part l.head [] ws
 part AfterCost end l ws = no_more (rule (written l.head l.right l.cost)) ws
 
 -- what has been said at a stage
-abbrev pub Fits : Stage → Said → Type 0
+abbrev Fits : Stage → Said → Type 0
 Fits Start l = (l.right ≡ []) × (l.cost ≡ 0)
 Fits AfterHead l = (l.right ≡ []) × (l.cost ≡ 0)
 Fits AfterArrow l = (l.right ≡ []) × (l.cost ≡ 0)
@@ -150,8 +150,8 @@ over_out : (b : Bool) → ◌≡◌ {A = ℕ} (cond b 21 22) 0 → ⊥
 over_out true e = omega arith
 over_out false e = omega arith
 
-first_item : (end h : ℕ) (l : Said) (i : ℕ) (ws : List Piece) → l.right ≡ [] → in_nine (item_part l.head (i ∷ []) ws) ≡ in_nine (item_part l.head (take 9 (l.right ++ (i ∷ []))) ws)
-first_item end h l i ws e = sym (ap (λ r. in_nine (item_part l.head (take 9 (r ++ (i ∷ []))) ws)) e)
+first_item : (l : Said) (i : ℕ) (ws : List Piece) → l.right ≡ [] → in_nine (item_part l.head (i ∷ []) ws) ≡ in_nine (item_part l.head (take 9 (l.right ++ (i ∷ []))) ws)
+first_item l i ws e = sym (ap (λ r. in_nine (item_part l.head (take 9 (r ++ (i ∷ []))) ws)) e)
 
 goes : (s n : Stage) (t : Token) (end : ℕ) (l : Said) (at : ℕ) (ws : List Piece) → Fits s l → refused s t ≡ 0 → after s t ≡ Some n → Goes s end l (kind_of t) at ws n (with_word s l t (number_of t))
 goes Start n (Arrow w p) end l at ws f e a = absurd (omega arith)
@@ -174,11 +174,11 @@ goes AfterArrow n (Blank w p) end l at ws f e a = subst (λ n. Goes AfterArrow e
 goes AfterArrow n (Head w p) end l at ws f e a =
     let d = decimal (drop 1 w.now) in
     subst (λ n. Goes AfterArrow end l (head d) at ws n (with_item l d)) (same_stage AfterItem n a)
-    (ap in_nine (within 31 d d (misplaced_as (head d) at) (λ i. item_part l.head (i ∷ []) ws) e) ∙ first_item end 0 l d ws f.0, f.1)
+    (ap in_nine (within 31 d d (misplaced_as (head d) at) (λ i. item_part l.head (i ∷ []) ws) e) ∙ first_item l d ws f.0, f.1)
 goes AfterArrow n (Pattern w p) end l at ws f e a =
     let d = decimal (drop 1 w.now) in
     subst (λ n. Goes AfterArrow end l (pattern d) at ws n (with_item l (32 + d))) (same_stage AfterItem n a)
-    (ap in_nine (within 31 d (32 + d) (misplaced_as (pattern d) at) (λ i. item_part l.head (i ∷ []) ws) e) ∙ first_item end 0 l (32 + d) ws f.0, f.1)
+    (ap in_nine (within 31 d (32 + d) (misplaced_as (pattern d) at) (λ i. item_part l.head (i ∷ []) ws) e) ∙ first_item l (32 + d) ws f.0, f.1)
 goes AfterArrow n (Cost w p) end l at ws f e a = absurd (over_out _ e)
 goes AfterArrow n (Unknown w p) end l at ws f e a = absurd (omega arith)
 goes AfterItem n (Arrow w p) end l at ws f e a = absurd (omega arith)

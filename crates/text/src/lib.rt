@@ -1,4 +1,6 @@
 // Reads one line of rule text: its words, their kinds and numbers, and the rule that they say.
+#![tactic(auto)]
+
 pub mod digits;
 pub mod fault;
 pub mod lexer;
