@@ -1,8 +1,8 @@
 -- The lines and the words of a text are those of the laws, and no others.
-use Rattle.std.proofs.Common.{◌≡◌, ℕ, suc, ◌+◌, Bool, true, false, cond, eqb, ◌⊎◌, List, [], ◌∷◌, ◌++◌, length, sym, refl, ap, ◌∙◌, subst, inl, inr, append-nil, arith}
+use Rattle.std.proofs.Common.{◌≡◌, ℕ, suc, ◌+◌, Bool, true, false, cond, eqb, List, [], ◌∷◌, ◌++◌, length, sym, refl, ap, ◌∙◌, subst, inl, inr, append-nil, arith}
 use Rattle.std.proofs.lemmas.Bool.{cases_Bool, cond-true, cond-false, or_right}
-use Rattle.grammar.specs.Lists.{Mem, those, each}
-use Rattle.text.specs.Words.{Piece, piece, longer, pieces, ends_line, parts, lines, some_byte, words, line_words, AllAre, Cut, Ends, Words, CutInto}
+use Rattle.grammar.specs.Lists.{those, each}
+use Rattle.text.specs.Words.{Piece, piece, longer, pieces, ends_line, parts, some_byte, words, line_words, AllAre, Cut, Ends, Words, CutInto}
 use Rattle.text.specs.Words.Cut.{last, next as next_piece}
 use Rattle.text.specs.Words.Words.{none, next as next_word}
 use Rattle.text.proofs.Wording.{pieces_last, pieces_next, words_split, words_none, words_gap, words_word}

@@ -1,8 +1,8 @@
 -- A stretch of text that begins later gives the same, at later places.
-use Rattle.std.proofs.Common.{◌≡◌, ℕ, suc, ◌+◌, Bool, true, false, cond, List, [], ◌∷◌, ◌++◌, map, Some, None, Option, sym, refl, ap, ◌∙◌, arith}
+use Rattle.std.proofs.Common.{◌≡◌, ℕ, suc, ◌+◌, Bool, true, false, cond, List, [], ◌∷◌, ◌++◌, map, Some, None, Option, refl, ap, ◌∙◌, arith}
 use Rattle.grammar.specs.Lists.{those}
 use Rattle.text.specs.Kinds.{kind}
-use Rattle.text.specs.Lines.{Outcome, nothing, rule, fault, written, head_of, item_of, cost_of, is_arrow, is_blank, by, misplaced, no_more, cost_part, item_part, right_part, arrow_part, line}
+use Rattle.text.specs.Outcomes.{Outcome, nothing, rule, fault, written, head_of, item_of, cost_of, is_arrow, is_blank, by, misplaced, no_more, cost_part, item_part, right_part, arrow_part, line}
 use Rattle.text.specs.Words.{Piece, piece, longer, pieces, parts, some_byte, words}
 
 -- k bytes later

@@ -1,6 +1,5 @@
 -- The words of a production's line, and what they are.
-use Rattle.std.proofs.Common.{◌≡◌, ℕ, suc, ◌+◌, ◌-◌, ◌*◌, ◌^◌, ◌<◌, ◌≤◌, Bool, true, false, cond, not, ◌&&◌, eqb, ltb, leb, ◌⊎◌, List, [], ◌∷◌, ◌++◌, map, length, get_or, decimal as digits_of, sym, refl, ap, ◌∙◌, subst, inl, inr, ⊎_elim, append_assoc, append-nil, arith, rules}
-use mathlib.Core.List.{map-append}
+use Rattle.std.proofs.Common.{◌≡◌, ℕ, suc, ◌+◌, ◌-◌, ◌^◌, ◌<◌, ◌≤◌, true, false, cond, not, ◌&&◌, ltb, List, [], ◌∷◌, ◌++◌, map, length, get_or, decimal as digits_of, sym, refl, ap, ◌∙◌, subst, inl, inr, ⊎_elim, append-nil, arith, rules}
 use Rattle.std.proofs.lemmas.Fmt.{digits_decimal, digits_value-decimal, decimal_nonempty, first_decimal, decimal_digit}
 use Rattle.std.proofs.lemmas.Str.Parse.{IsNumeralModel, numerals_by_fold, not_in_digits}
 use Rattle.std.proofs.lemmas.Bool.{cases_lt, ne_eqb, cond-true, cond-false, lt-ltb, le-ltb, and_parts}
@@ -9,9 +8,9 @@ use Rattle.grammar.specs.Lists.{Mem, each}
 use Rattle.grammar.specs.Productions.{Production}
 use Rattle.grammar.proofs.Lists.{map_mem, mem_append}
 use Rattle.text.specs.Kinds.{Kind, arrow, blank, head, pattern, cost, unknown, arrow_text, blank_text, lettered, kind}
-use Rattle.text.specs.Lines.{kinds, item_kind, right_kinds, Writable, front_kinds, word_text, spaced, line_text, Says}
+use Rattle.text.specs.Outcomes.{kinds, item_kind, right_kinds, Writable, front_kinds, word_text, spaced, line_text, Says}
 use Rattle.text.specs.Numbers.{is_digit, all_digits, is_numeral, decimal_after, decimal}
-use Rattle.text.specs.Words.{Piece, piece, ends_line, parts, words, AllAre}
+use Rattle.text.specs.Words.{piece, ends_line, parts, words, AllAre}
 use Rattle.text.proofs.Spelled.{kind_arrow, kind_blank}
 use Rattle.text.proofs.Wording.{words_split, words_word, words_none, all_places}
 

@@ -1,5 +1,5 @@
 -- What the outcome of a line means.
-use Rattle.std.proofs.Common.{◌≡◌, ℕ, suc, ◌+◌, ◌-◌, ◌<◌, ◌≤◌, Bool, true, false, cond, ltb, leb, ◌⊎◌, List, [], ◌∷◌, ◌++◌, map, length, Some, None, Option, sym, refl, ap, ◌∙◌, subst, inl, inr, ⊎_elim, append_assoc, append-nil, arith, length-append}
+use Rattle.std.proofs.Common.{◌≡◌, ℕ, ◌+◌, ◌-◌, ◌<◌, ◌≤◌, Bool, true, false, cond, ltb, leb, ◌⊎◌, List, [], ◌∷◌, ◌++◌, map, length, Some, None, Option, sym, refl, ap, ◌∙◌, subst, inl, inr, ⊎_elim, append_assoc, append-nil, arith, length-append}
 use mathlib.Core.List.{map-append}
 use Rattle.std.proofs.lemmas.List.{length-map}
 use Rattle.std.proofs.lemmas.Bool.{both_ways, cases_Bool, cases_lt, cond-true, cond-false, le-leb, leb-true, lt-ltb, le-ltb}
@@ -7,7 +7,7 @@ use Rattle.grammar.specs.Lists.{Mem}
 use Rattle.grammar.specs.Productions.{Production}
 use Rattle.grammar.proofs.Lists.{mem_append}
 use Rattle.text.specs.Kinds.{Kind, arrow, blank, head, pattern, cost, unknown, kind}
-use Rattle.text.specs.Lines.{Outcome, nothing, rule, fault, written, refused, head_of, item_of, cost_of, is_arrow, is_blank, by, misplaced, no_more, cost_part, item_part, right_part, arrow_part, line, kinds, item_kind, right_kinds, Writable, front_kinds, Says, Begins, WordRefused, LineTooShort, Means}
+use Rattle.text.specs.Outcomes.{rule, written, head_of, item_of, cost_of, is_arrow, is_blank, by, misplaced, no_more, cost_part, item_part, right_part, arrow_part, line, kinds, item_kind, right_kinds, Writable, front_kinds, Says, Begins, Means}
 use Rattle.text.specs.Words.{Piece}
 
 -- Kinds told apart

@@ -1,10 +1,10 @@
 -- A sound line gives its production.
-use Rattle.std.proofs.Common.{◌≡◌, ℕ, ◌+◌, ◌-◌, ◌<◌, ◌≤◌, Bool, true, false, cond, ltb, leb, ◌⊎◌, List, [], ◌∷◌, ◌++◌, map, length, Some, None, Option, sym, refl, ap, ◌∙◌, inl, inr, append_assoc, append-nil, arith}
+use Rattle.std.proofs.Common.{◌≡◌, ℕ, ◌<◌, ◌≤◌, cond, leb, List, [], ◌∷◌, ◌++◌, map, Some, None, Option, sym, refl, ap, ◌∙◌, inl, inr, append_assoc, append-nil}
 use Rattle.std.proofs.lemmas.Bool.{cond-true, le-leb}
 use Rattle.grammar.specs.Lists.{Mem}
 use Rattle.grammar.specs.Productions.{Production}
-use Rattle.text.specs.Kinds.{Kind, arrow, blank, head, pattern, cost, unknown, kind}
-use Rattle.text.specs.Lines.{Outcome, rule, written, head_of, item_of, cost_of, is_arrow, is_blank, by, misplaced, no_more, cost_part, item_part, right_part, arrow_part, line, kinds, item_kind, right_kinds, front_kinds, Says}
+use Rattle.text.specs.Kinds.{Kind, arrow, blank, head, cost, kind}
+use Rattle.text.specs.Outcomes.{rule, written, head_of, item_of, cost_of, is_arrow, is_blank, by, misplaced, no_more, cost_part, item_part, right_part, arrow_part, line, kinds, item_kind, right_kinds, Says}
 use Rattle.text.specs.Words.{Piece}
 use Rattle.text.proofs.Meaning.{item_named, item_neither, first_same, rest_same, not_empty}
 

@@ -1,13 +1,14 @@
 -- How words are spelled.
-use Rattle.std.proofs.Common.{◌≡◌, ℕ, ◌-◌, ◌<◌, Bool, true, false, cond, ◌&&◌, eqb, ◌⊎◌, List, [], ◌∷◌, length, get_or, take, drop, Decides, sym, refl, ap, ◌∙◌, subst, inl, inr, ⊎_elim, arith, rules}
+use Rattle.std.proofs.Common.{◌≡◌, ℕ, ◌-◌, ◌<◌, true, false, cond, T, eqb, ◌⊎◌, List, [], ◌∷◌, length, get_or, take, drop, Decides, sym, refl, ap, ◌∙◌, subst, inl, inr, ⊎_elim, arith, rules}
 use Rattle.std.proofs.lemmas.Slice.Eq.{compares_Decides}
 use Rattle.std.proofs.lemmas.List.{take_rest}
-use Rattle.std.proofs.lemmas.Bool.{cases_Bool, cases_eq, both_ways, and_parts, ne_eqb, cond-true, cond-false}
-use Rattle.std.proofs.lemmas.Bool.Decides.{nat_tests}
+use Rattle.std.proofs.lemmas.Slice.{first_rest}
+use Rattle.std.proofs.lemmas.Bool.{cases_Bool, cases_eq, both_ways, ne_eqb, cond-true, cond-false}
 use Rattle.grammar.specs.Lists.{same_numbers}
-use Rattle.text.specs.Kinds.{Kind, arrow, blank, head, pattern, cost, unknown, arrow_text, blank_text, lettered, spelled, kind, word_of, kind_of, Spelled, OfKind}
+use Rattle.text.specs.Kinds.{Kind, arrow, blank, head, pattern, cost, unknown, arrow_text, blank_text, lettered as by_letter, spelled as by_spelling, kind, word_of, kind_of, Spelled, OfKind, Known, Lettered, Sound}
 use Rattle.text.specs.declared.token.Token.{Token}
-use Rattle.text.specs.Numbers.{is_digit, all_digits, is_numeral, decimal}
+use Rattle.text.specs.declared.token.Token.TheVariants.{Arrow, Blank, Head, Pattern, Cost, Unknown}
+use Rattle.text.specs.Numbers.{is_numeral, decimal}
 
 -- a list by its length and elements
 pub of_two : (w : List ℕ) (a b : ℕ) → length w ≡ 2 → get_or w 0 0 ≡ a → get_or w 1 0 ≡ b → w ≡ a ∷ (b ∷ [])
@@ -28,6 +29,27 @@ of_five (x ∷ w) a b c d e l p q r s t = cc (of_four w b c d e (omega arith) q 
     of_four [] b c d e l p q r s = absurd (omega arith)
     of_four (x ∷ w) b c d e l p q r s = cc (of_three w c d e (omega arith) q r s, p)
 
+-- a first byte and the rest
+pub spelled : (w : List ℕ) (a : ℕ) → 0 < a → get_or w 0 0 ≡ a → a ∷ take (length w - 1) (drop 1 w) ≡ w
+spelled [] a h p = absurd (omega arith)
+spelled (x ∷ w) a h p = ap (λ z. z ∷ take (length (x ∷ w) - 1) w) (sym p) ∙ sym (first_rest (x ∷ w) 0 (omega arith))
+
+pub rest_of : (w d : List ℕ) (a : ℕ) → w ≡ a ∷ d → take (length w - 1) (drop 1 w) ≡ d
+rest_of w d a e = take_rest w 1 ∙ ap (drop 1) e
+
+-- a letter before a number
+pub lettered : (w : List ℕ) (a : ℕ) → 0 < a → get_or w 0 0 ≡ a → is_numeral (take (length w - 1) (drop 1 w)) ≡ true → Lettered a w
+lettered w a h p n = (take (length w - 1) (drop 1 w), n, sym (spelled w a h p))
+
+-- a letter and the rest is no word of a kind where the rest is no number
+pub no_numeral : (w : List ℕ) → is_numeral (take (length w - 1) (drop 1 w)) ≡ false → (w ≡ arrow_text → ⊥) → (w ≡ blank_text → ⊥) → Known w → ⊥
+no_numeral w f na nb (inl e) = na e
+no_numeral w f na nb (inr (inl e)) = nb e
+no_numeral w f na nb (inr (inr k)) = ⊎_elim (no 72) (⊎_elim (no 80) (no 35)) k
+  where
+    no : (a : ℕ) → Lettered a w → ⊥
+    no a (d, t, e) = let h : true ≡ false = sym t ∙ (sym (ap is_numeral (rest_of w d a e)) ∙ f) in subst T h tt
+
 -- two spellings are one, or not
 same_decides : (v w : List ℕ) → Decides (same_numbers v w) (v ≡ w)
 same_decides v w = compares_Decides same_numbers (search rules) v w
@@ -36,11 +58,11 @@ not_same : (v w : List ℕ) → (v ≡ w → ⊥) → same_numbers v w ≡ false
 not_same v w n = ⊎_elim (λ (t : same_numbers v w ≡ true). absurd (n ((same_decides v w).0 t))) (λ (f : same_numbers v w ≡ false). f) (cases_Bool (same_numbers v w))
 
 -- a word with no fixed spelling
-pub kind_other : (w : List ℕ) → (w ≡ arrow_text → ⊥) → (w ≡ blank_text → ⊥) → kind w ≡ spelled w
+pub kind_other : (w : List ℕ) → (w ≡ arrow_text → ⊥) → (w ≡ blank_text → ⊥) → kind w ≡ by_spelling w
 unfolding kind
 kind_other w na nb =
-    cond-false (same_numbers w arrow_text) arrow (cond (same_numbers w blank_text) blank (spelled w)) (not_same w arrow_text na)
-    ∙ cond-false (same_numbers w blank_text) blank (spelled w) (not_same w blank_text nb)
+    cond-false (same_numbers w arrow_text) arrow (cond (same_numbers w blank_text) blank (by_spelling w)) (not_same w arrow_text na)
+    ∙ cond-false (same_numbers w blank_text) blank (by_spelling w) (not_same w blank_text nb)
 
 pub kind_arrow : (w : List ℕ) → w ≡ arrow_text → kind w ≡ arrow
 unfolding kind
@@ -52,61 +74,27 @@ kind_blank w e = ap kind e
 
 -- a letter before a number
 pub kind_lettered : (w : List ℕ) (a : ℕ) → get_or w 0 0 ≡ a → is_numeral (take (length w - 1) (drop 1 w)) ≡ true → (w ≡ arrow_text → ⊥) → (w ≡ blank_text → ⊥)
-    → kind w ≡ lettered a (decimal (drop 1 w))
+    → kind w ≡ by_letter a (decimal (drop 1 w))
 kind_lettered w a p n na nb = kind_other w na nb ∙ at w p n
   where
-    at : (w : List ℕ) → get_or w 0 0 ≡ a → is_numeral (take (length w - 1) (drop 1 w)) ≡ true → spelled w ≡ lettered a (decimal (drop 1 w))
+    at : (w : List ℕ) → get_or w 0 0 ≡ a → is_numeral (take (length w - 1) (drop 1 w)) ≡ true → by_spelling w ≡ by_letter a (decimal (drop 1 w))
     at [] p n = absurd (both_ways _ refl n)
-    at (x ∷ ds) p n = cond-true (is_numeral ds) (lettered x (decimal ds)) unknown (sym (ap is_numeral (take_rest (x ∷ ds) 1)) ∙ n) ∙ ap (λ z. lettered z (decimal ds)) p
+    at (x ∷ ds) p n = cond-true (is_numeral ds) (by_letter x (decimal ds)) unknown (sym (ap is_numeral (take_rest (x ∷ ds) 1)) ∙ n) ∙ ap (λ z. by_letter z (decimal ds)) p
 
 -- no number after the letter
 pub kind_no_number : (w : List ℕ) → is_numeral (take (length w - 1) (drop 1 w)) ≡ false → (w ≡ arrow_text → ⊥) → (w ≡ blank_text → ⊥) → kind w ≡ unknown
 kind_no_number w n na nb = kind_other w na nb ∙ at w n
   where
-    at : (w : List ℕ) → is_numeral (take (length w - 1) (drop 1 w)) ≡ false → spelled w ≡ unknown
+    at : (w : List ℕ) → is_numeral (take (length w - 1) (drop 1 w)) ≡ false → by_spelling w ≡ unknown
     at [] n = refl
-    at (x ∷ ds) n = cond-false (is_numeral ds) (lettered x (decimal ds)) unknown (sym (ap is_numeral (take_rest (x ∷ ds) 1)) ∙ n)
+    at (x ∷ ds) n = cond-false (is_numeral ds) (by_letter x (decimal ds)) unknown (sym (ap is_numeral (take_rest (x ∷ ds) 1)) ∙ n)
 
 -- the letter is none that comes before a number
-pub other_letter : (a n : ℕ) → (a ≡ 72 → ⊥) → (a ≡ 80 → ⊥) → (a ≡ 35 → ⊥) → lettered a n ≡ unknown
+pub other_letter : (a n : ℕ) → (a ≡ 72 → ⊥) → (a ≡ 80 → ⊥) → (a ≡ 35 → ⊥) → by_letter a n ≡ unknown
 other_letter a n h p c =
     cond-false (eqb a 72) (head n) (cond (eqb a 80) (pattern n) (cond (eqb a 35) (cost n) unknown)) (ne_eqb a 72 h)
     ∙ cond-false (eqb a 80) (pattern n) (cond (eqb a 35) (cost n) unknown) (ne_eqb a 80 p)
     ∙ cond-false (eqb a 35) (cost n) unknown (ne_eqb a 35 c)
-
-numeral_digits : (ds : List ℕ) → is_numeral ds ≡ true → all_digits ds ≡ true
-numeral_digits [] n = refl
-numeral_digits (b ∷ []) n = ap (λ t. t && true) n
-numeral_digits (b ∷ (c ∷ cs)) n = (and_parts _ (all_digits (b ∷ (c ∷ cs))) n).1
-
--- a word with a number
-abbrev pub numbered : Kind → Bool
-numbered arrow = false
-numbered blank = false
-numbered (head n) = true
-numbered (pattern n) = true
-numbered (cost n) = true
-numbered unknown = false
-
-pub digits_after : (w : List ℕ) → numbered (kind w) ≡ true → (0 < length w) × (all_digits (drop 1 w) ≡ true)
-unfolding kind
-digits_after w t = by_arrow (same_numbers w arrow_text) (same_numbers w blank_text) t
-  where
-    at : (w : List ℕ) → numbered (spelled w) ≡ true → (0 < length w) × (all_digits (drop 1 w) ≡ true)
-    at [] t = absurd (both_ways _ refl t)
-    at (a ∷ ds) t = elim (cases_Bool (is_numeral ds)) [
-      | inl n ↦ (omega arith, numeral_digits ds n)
-      | inr n ↦ absurd (both_ways _ (ap numbered (cond-false (is_numeral ds) (lettered a (decimal ds)) unknown n)) t)
-    ]
-
-    by_arrow : (p q : Bool) → numbered (cond p arrow (cond q blank (spelled w))) ≡ true → (0 < length w) × (all_digits (drop 1 w) ≡ true)
-    by_arrow true q t = absurd (both_ways _ refl t)
-    by_arrow false true t = absurd (both_ways _ refl t)
-    by_arrow false false t = at w t
-
--- a token with a number, whose kind is its word's
-pub token_digits : (t u : Token) → kind_of t ≡ kind (word_of t) → t ≡ u → numbered (kind_of u) ≡ true → (0 < length (word_of u)) × (all_digits (drop 1 (word_of u)) ≡ true)
-token_digits t u k e n = digits_after (word_of u) (ap numbered (sym (subst (λ (v : Token). kind_of v ≡ kind (word_of v)) e k)) ∙ n)
 
 -- a word is of the kind as which it is spelled
 pub of_kind : (w : List ℕ) → OfKind w
@@ -121,27 +109,45 @@ of_kind w = record { is_kind = is; known = by_arrow (cases_Bool (same_numbers w 
     is (cost n) (d, num, val, e) = ap kind e ∙ cond-true (is_numeral d) (cost (decimal d)) unknown num ∙ ap cost val
     is unknown e = absurd e
 
-    letter : (a : ℕ) (d : List ℕ) → is_numeral d ≡ true → w ≡ a ∷ d → (lettered a (decimal d) ≡ unknown) ⊎ Spelled w (lettered a (decimal d))
+    letter : (a : ℕ) (d : List ℕ) → is_numeral d ≡ true → w ≡ a ∷ d → (by_letter a (decimal d) ≡ unknown) ⊎ Spelled w (by_letter a (decimal d))
     letter a d num e = elim (cases_eq a 72) [
-      | inl h ↦ inr (subst (λ z. Spelled w (lettered z (decimal d))) (sym h) (d, num, refl, e ∙ ap (λ z. z ∷ d) h))
+      | inl h ↦ inr (subst (λ z. Spelled w (by_letter z (decimal d))) (sym h) (d, num, refl, e ∙ ap (λ z. z ∷ d) h))
       | inr h ↦ elim (cases_eq a 80) [
-        | inl p ↦ inr (subst (λ z. Spelled w (lettered z (decimal d))) (sym p) (d, num, refl, e ∙ ap (λ z. z ∷ d) p))
+        | inl p ↦ inr (subst (λ z. Spelled w (by_letter z (decimal d))) (sym p) (d, num, refl, e ∙ ap (λ z. z ∷ d) p))
         | inr p ↦ elim (cases_eq a 35) [
-          | inl c ↦ inr (subst (λ z. Spelled w (lettered z (decimal d))) (sym c) (d, num, refl, e ∙ ap (λ z. z ∷ d) c))
+          | inl c ↦ inr (subst (λ z. Spelled w (by_letter z (decimal d))) (sym c) (d, num, refl, e ∙ ap (λ z. z ∷ d) c))
           | inr c ↦ inl (other_letter a (decimal d) h p c)
         ]
       ]
     ]
 
-    rest : (v : List ℕ) → w ≡ v → (spelled v ≡ unknown) ⊎ Spelled w (spelled v)
+    rest : (v : List ℕ) → w ≡ v → (by_spelling v ≡ unknown) ⊎ Spelled w (by_spelling v)
     rest [] e = inl refl
     rest (a ∷ d) e = elim (cases_Bool (is_numeral d)) [
-      | inl t ↦ subst (λ (k : Kind). (k ≡ unknown) ⊎ Spelled w k) (sym (cond-true (is_numeral d) (lettered a (decimal d)) unknown t)) (letter a d t e)
-      | inr f ↦ inl (cond-false (is_numeral d) (lettered a (decimal d)) unknown f)
+      | inl t ↦ subst (λ (k : Kind). (k ≡ unknown) ⊎ Spelled w k) (sym (cond-true (is_numeral d) (by_letter a (decimal d)) unknown t)) (letter a d t e)
+      | inr f ↦ inl (cond-false (is_numeral d) (by_letter a (decimal d)) unknown f)
     ]
 
     by_arrow : ((same_numbers w arrow_text ≡ true) ⊎ (same_numbers w arrow_text ≡ false)) → ((same_numbers w blank_text ≡ true) ⊎ (same_numbers w blank_text ≡ false)) → (kind w ≡ unknown) ⊎ Spelled w (kind w)
     by_arrow (inl t) b = let e = (same_decides w arrow_text).0 t in inr (subst (Spelled w) (sym (kind_arrow w e)) e)
     by_arrow (inr f) (inl t) = let e = (same_decides w blank_text).0 t in inr (subst (Spelled w) (sym (kind_blank w e)) e)
     by_arrow (inr f) (inr g) = subst (λ (k : Kind). (k ≡ unknown) ⊎ Spelled w k)
-        (sym (cond-false (same_numbers w arrow_text) arrow (cond (same_numbers w blank_text) blank (spelled w)) f ∙ cond-false (same_numbers w blank_text) blank (spelled w) g)) (rest w refl)
+        (sym (cond-false (same_numbers w arrow_text) arrow (cond (same_numbers w blank_text) blank (by_spelling w)) f ∙ cond-false (same_numbers w blank_text) blank (by_spelling w) g)) (rest w refl)
+
+-- a word that is spelled as some kind is known
+spelled_known : (w : List ℕ) (k : Kind) → Spelled w k → Known w
+spelled_known w arrow e = inl e
+spelled_known w blank e = inr (inl e)
+spelled_known w (head n) (d, num, val, e) = inr (inr (inl (d, num, e)))
+spelled_known w (pattern n) (d, num, val, e) = inr (inr (inr (inl (d, num, e))))
+spelled_known w (cost n) (d, num, val, e) = inr (inr (inr (inr (d, num, e))))
+spelled_known w unknown e = absurd e
+
+-- a token of its word's kind says what the word is
+pub sound_kind : (t : Token) → Sound t → kind (word_of t) ≡ kind_of t
+sound_kind (Arrow w at) e = kind_arrow w.now e
+sound_kind (Blank w at) e = kind_blank w.now e
+sound_kind (Head w at) (d, num, e) = (of_kind w.now).is_kind (head (decimal d)) (d, num, refl, e) ∙ ap (λ v. head (decimal (drop 1 v))) (sym e)
+sound_kind (Pattern w at) (d, num, e) = (of_kind w.now).is_kind (pattern (decimal d)) (d, num, refl, e) ∙ ap (λ v. pattern (decimal (drop 1 v))) (sym e)
+sound_kind (Cost w at) (d, num, e) = (of_kind w.now).is_kind (cost (decimal d)) (d, num, refl, e) ∙ ap (λ v. cost (decimal (drop 1 v))) (sym e)
+sound_kind (Unknown w at) other = ⊎_elim (λ (u : kind w.now ≡ unknown). u) (λ (s : Spelled w.now (kind w.now)). absurd (other (spelled_known w.now (kind w.now) s))) (of_kind w.now).known

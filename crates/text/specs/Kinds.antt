@@ -1,5 +1,5 @@
 -- What a word is.
-use Rattle.std.specs.Prelude.{◌≡◌, ℕ, Bool, true, cond, ◌⊎◌, List, [], ◌∷◌, drop, ◌==◌}
+use Rattle.std.specs.Prelude.{◌≡◌, ℕ, true, cond, ◌⊎◌, List, [], ◌∷◌, drop, ◌==◌}
 use Rattle.grammar.specs.Lists.{same_numbers}
 use Rattle.text.specs.Numbers.{is_numeral, decimal}
 use Rattle.text.specs.declared.token.Token.{Token}
@@ -21,6 +21,14 @@ arrow_text = 45 ∷ (62 ∷ [])
 -- blank
 abbrev pub blank_text : List ℕ
 blank_text = 98 ∷ (108 ∷ (97 ∷ (110 ∷ (107 ∷ []))))
+
+-- a letter before a number
+abbrev pub Lettered : ℕ → List ℕ → Type 0
+Lettered a w = (d : List ℕ) × (is_numeral d ≡ true) × (w ≡ a ∷ d)
+
+-- a word of some kind; H is 72, P is 80 and # is 35
+abbrev pub Known : List ℕ → Type 0
+Known w = (w ≡ arrow_text) ⊎ ((w ≡ blank_text) ⊎ (Lettered 72 w ⊎ (Lettered 80 w ⊎ Lettered 35 w)))
 
 -- what a number after a letter is: H is 72, P is 80 and # is 35
 abbrev pub lettered : ℕ → ℕ → Kind
@@ -75,3 +83,12 @@ kind_of (Head w at) = head (decimal (drop 1 w.now))
 kind_of (Pattern w at) = pattern (decimal (drop 1 w.now))
 kind_of (Cost w at) = cost (decimal (drop 1 w.now))
 kind_of (Unknown w at) = unknown
+
+-- the word is of the token's kind
+abbrev pub Sound : Token → Type 0
+Sound (Arrow w at) = w.now ≡ arrow_text
+Sound (Blank w at) = w.now ≡ blank_text
+Sound (Head w at) = Lettered 72 w.now
+Sound (Pattern w at) = Lettered 80 w.now
+Sound (Cost w at) = Lettered 35 w.now
+Sound (Unknown w at) = Known w.now → ⊥

@@ -1,215 +1,114 @@
--- What the words of a line give.
-use Rattle.std.specs.Prelude.{◌≡◌, ℕ, ◌+◌, ◌-◌, ◌<◌, ◌≤◌, Bool, true, false, cond, ◌⊎◌, List, [], ◌∷◌, ◌++◌, map, length, take, Some, None, Ok, Err, decimal, Option, Result, nat_le, nat_lt}
-use Rattle.grammar.specs.Lists.{Mem, each}
-use Rattle.grammar.specs.Productions.{Production}
+use Rattle.std.specs.Prelude.{◌≡◌, ℕ, ◌+◌, ◌<◌, ◌≤◌, true, cond, List, [], ◌∷◌, ◌++◌, length, take, is_some, Some, None, Ok, Err, Option, Result, nat_lt, slice_index}
 use Rattle.text.specs.Faults.{line_fault_number, line_fault_place}
-use Rattle.text.specs.Kinds.{Kind, arrow, blank, head, pattern, cost, unknown, arrow_text, blank_text, kind}
-use Rattle.text.specs.Words.{Piece}
+use Rattle.text.specs.Kinds.{word_of, place_of, Sound}
+use Rattle.text.specs.Limits.{number_of, limit_of, is_unknown}
+use Rattle.text.specs.Stages.{after}
+use Rattle.text.specs.Words.{parts, IsWord}
 use Rattle.text.specs.declared.fault.LineFault.{LineFault}
+use Rattle.text.specs.declared.fault.LineFault.TheVariants.{TooShort}
+use Rattle.text.specs.declared.reading.Reading.{Reading}
+use Rattle.text.specs.declared.reading.Stage.{Stage}
+use Rattle.text.specs.declared.reading.Stage.TheVariants.{Start, AfterHead, AfterArrow, AfterItem, AfterBlank, AfterCost}
 use Rattle.text.specs.declared.rule_line.RuleLine.{RuleLine}
+use Rattle.text.specs.declared.token.Token.{Token}
+use Rattle.text.specs.declared.token.Token.TheVariants.{Arrow, Blank, Head, Pattern, Cost, Unknown}
 
--- what a line gives: nothing, a rule, or a refusal with its number and its byte place
-pub data Outcome : Type 0 where
-  nothing : Outcome
-  rule : Production → Outcome
-  fault : ℕ → ℕ → Outcome
-
--- a production of a head, a right side and a cost
-abbrev pub written : ℕ → List ℕ → ℕ → Production
-written h right c = record { head = h; right = right; cost = c }
-
--- the number of the refusal of a word that may not stand where it does: unknown, over its limit, or else out of place
-abbrev pub refused : Kind → ℕ
-refused arrow = 22
-refused blank = 22
-refused (head n) = cond (nat_lt 31 n) 21 22
-refused (pattern n) = cond (nat_lt 31 n) 21 22
-refused (cost n) = cond (nat_lt 65535 n) 21 22
-refused unknown = 20
-
--- a head within its limit
-abbrev pub head_of : Kind → Option ℕ
-head_of arrow = None
-head_of blank = None
-head_of (head n) = cond (nat_le n 31) (Some n) None
-head_of (pattern n) = None
-head_of (cost n) = None
-head_of unknown = None
-
--- an item within its limit: head h is h, pattern t is 32 + t
-abbrev pub item_of : Kind → Option ℕ
-item_of arrow = None
-item_of blank = None
-item_of (head n) = cond (nat_le n 31) (Some n) None
-item_of (pattern n) = cond (nat_le n 31) (Some (32 + n)) None
-item_of (cost n) = None
-item_of unknown = None
-
--- a cost within its limit
-abbrev pub cost_of : Kind → Option ℕ
-cost_of arrow = None
-cost_of blank = None
-cost_of (head n) = None
-cost_of (pattern n) = None
-cost_of (cost n) = cond (nat_le n 65535) (Some n) None
-cost_of unknown = None
-
-abbrev pub is_arrow : Kind → Bool
-is_arrow arrow = true
-is_arrow blank = false
-is_arrow (head n) = false
-is_arrow (pattern n) = false
-is_arrow (cost n) = false
-is_arrow unknown = false
-
-abbrev pub is_blank : Kind → Bool
-is_blank arrow = false
-is_blank blank = true
-is_blank (head n) = false
-is_blank (pattern n) = false
-is_blank (cost n) = false
-is_blank unknown = false
-
--- one thing of what is there, another of nothing
-abbrev pub by : {A : Type 0} → Option ℕ → A → (ℕ → A) → A
-by None x f = x
-by (Some n) x f = f n
-
--- the refusal of a word where it stands
-abbrev pub misplaced : Piece → Outcome
-misplaced w = fault (refused (kind w.bytes)) w.place
-
--- no word may come
-abbrev pub no_more : Outcome → List Piece → Outcome
-no_more o [] = o
-no_more o (w ∷ ws) = misplaced w
-
--- behind the right side: at most a cost
-abbrev pub cost_part : ℕ → List ℕ → List Piece → Outcome
-cost_part h is [] = rule (written h is 0)
-cost_part h is (w ∷ ws) = by (cost_of (kind w.bytes)) (misplaced w) (λ c. no_more (rule (written h is c)) ws)
-
--- behind some items: further items, then at most a cost
-unfoldable pub item_part : ℕ → List ℕ → List Piece → Outcome
-item_part h is [] = cost_part h is []
-item_part h is (w ∷ ws) = by (item_of (kind w.bytes)) (cost_part h is (w ∷ ws)) (λ i. item_part h (is ++ (i ∷ [])) ws)
-
--- behind the arrow, in a line that ends at a place: blank or an item
-abbrev pub right_part : ℕ → ℕ → List Piece → Outcome
-right_part end h [] = fault 23 end
-right_part end h (w ∷ ws) = cond (is_blank (kind w.bytes)) (cost_part h [] ws) (by (item_of (kind w.bytes)) (misplaced w) (λ i. item_part h (i ∷ []) ws))
-
--- behind the head: the arrow
-abbrev pub arrow_part : ℕ → ℕ → List Piece → Outcome
-arrow_part end h [] = fault 23 end
-arrow_part end h (w ∷ ws) = cond (is_arrow (kind w.bytes)) (right_part end h ws) (misplaced w)
-
--- what the words of a line that ends at a place give: a head, the arrow, the right side, at most a cost
-abbrev pub line : ℕ → List Piece → Outcome
-line end [] = nothing
-line end (w ∷ ws) = by (head_of (kind w.bytes)) (misplaced w) (λ h. arrow_part end h ws)
-
--- Law
-
--- the kinds of words
-abbrev pub kinds : List Piece → List Kind
-kinds ws = map (λ (w : Piece). kind w.bytes) ws
-
--- the word of an item
-abbrev pub item_kind : ℕ → Kind
-item_kind i = cond (nat_lt i 32) (head i) (pattern (i - 32))
-
--- the words of a right side
-abbrev pub right_kinds : List ℕ → List Kind
-right_kinds [] = blank ∷ []
-right_kinds (i ∷ is) = map item_kind (i ∷ is)
-
--- a production that can be written: each number within its limit
-pub record Writable (p : Production) : Type 0 where
-  pub low_head : p.head ≤ 31
-  pub low_items : (i : ℕ) → Mem i p.right → i < 64
-  pub low_cost : p.cost ≤ 65535
-
--- the words of a production but for its cost
-abbrev pub front_kinds : Production → List Kind
-front_kinds p = head p.head ∷ (arrow ∷ right_kinds p.right)
-
--- the words say the production: its head, an arrow, its right side, its cost; a cost of 0 may be left out
-abbrev pub Says : List Kind → Production → Type 0
-Says ks p = Writable p × ((ks ≡ front_kinds p ++ (cost p.cost ∷ [])) ⊎ ((ks ≡ front_kinds p) × (p.cost ≡ 0)))
-
--- a sound line can begin with these words
-abbrev pub Begins : List Kind → Type 0
-Begins ks = (p : Production) × ((more : List Kind) × Says (ks ++ more) p)
-
--- a word is refused: a sound line can begin with the words before it, and with it no longer
-pub record WordRefused (ws : List Piece) (n at : ℕ) : Type 0 where
-  pub before : List Piece
-  pub word : Piece
-  pub after : List Piece
-  pub are : ws ≡ before ++ (word ∷ after)
-  pub begins : Begins (kinds before)
-  pub no_longer : Begins (kinds before ++ (kind word.bytes ∷ [])) → ⊥
-  pub number : n ≡ refused (kind word.bytes)
-  pub place : at ≡ word.place
-
--- the line is too short: a sound line can begin with its words, of which there are some, and they are none
-pub record LineTooShort (end : ℕ) (ws : List Piece) (n at : ℕ) : Type 0 where
-  pub some : 0 < length ws
-  pub begins : Begins (kinds ws)
-  pub not_sound : (p : Production) → Says (kinds ws) p → ⊥
-  pub number : n ≡ 23
-  pub place : at ≡ end
-
--- what an outcome of a line means
-abbrev pub Means : ℕ → List Piece → Outcome → Type 0
-Means end ws nothing = ws ≡ []
-Means end ws (rule p) = Says (kinds ws) p
-Means end ws (fault n at) = WordRefused ws n at ⊎ LineTooShort end ws n at
-
--- A production as text
-
--- how a word of that kind is written
-abbrev pub word_text : Kind → List ℕ
-word_text arrow = arrow_text
-word_text blank = blank_text
-word_text (head n) = 72 ∷ decimal n
-word_text (pattern n) = 80 ∷ decimal n
-word_text (cost n) = 35 ∷ decimal n
-word_text unknown = []
-
--- words with a space before each but the first
-abbrev pub spaced : List (List ℕ) → List ℕ
-spaced [] = []
-spaced (w ∷ ws) = w ++ each (λ (v : List ℕ). 32 ∷ v) ws
-
--- a production as a line: its words, its cost the last
-abbrev pub line_text : Production → List ℕ
-line_text p = spaced (map word_text (front_kinds p ++ (cost p.cost ∷ [])))
-
--- Answers of the reader
+-- a rule as its words say it
+pub record Said : Type 0 where
+  pub head : ℕ
+  pub right : List ℕ
+  pub cost : ℕ
 
 -- what a rule line holds
-abbrev pub said_of : RuleLine → Production
-said_of l = written l.head (take l.len l.items) l.cost
+abbrev pub said_of : RuleLine → Said
+said_of l = record { head = l.head; right = take l.len l.items; cost = l.cost }
 
--- what a reader of the rest of a line gives
-abbrev pub said : Result RuleLine LineFault → Outcome
-said (Ok l) = rule (said_of l)
-said (Err f) = fault (line_fault_number f) (line_fault_place f)
+-- with one item more, nine at most
+abbrev pub with_item : Said → ℕ → Said
+with_item l n = record { head = l.head; right = take 9 (l.right ++ (n ∷ [])); cost = l.cost }
 
--- what the reader of a line gives
-abbrev pub line_said : Result (Option RuleLine) LineFault → Outcome
-line_said (Ok None) = nothing
-line_said (Ok (Some l)) = rule (said_of l)
-line_said (Err f) = fault (line_fault_number f) (line_fault_place f)
+-- a head names the rule at the start of the line, and is an item after
+abbrev pub with_head : Stage → Said → ℕ → Said
+with_head Start l n = record { head = n; right = l.right; cost = l.cost }
+with_head AfterHead l n = with_item l n
+with_head AfterArrow l n = with_item l n
+with_head AfterItem l n = with_item l n
+with_head AfterBlank l n = with_item l n
+with_head AfterCost l n = with_item l n
 
--- a production with its first nine items, which stand for nine and more: a book refuses both alike
-abbrev pub first_nine : Production → Production
-first_nine p = written p.head (take 9 p.right) p.cost
+-- what is said with one word more
+abbrev pub with_word : Stage → Said → Token → ℕ → Said
+with_word s l (Arrow w at) n = l
+with_word s l (Blank w at) n = l
+with_word s l (Head w at) n = with_head s l n
+with_word s l (Pattern w at) n = with_item l (32 + n)
+with_word s l (Cost w at) n = record { head = l.head; right = l.right; cost = n }
+with_word s l (Unknown w at) n = l
 
--- an outcome with the first nine items
-abbrev pub in_nine : Outcome → Outcome
-in_nine nothing = nothing
-in_nine (rule p) = rule (first_nine p)
-in_nine (fault n at) = fault n at
+-- the refusal of a word for what it is, 0 for none
+abbrev pub refused_alone : Token → ℕ
+refused_alone t = cond (is_unknown t) 20 (cond (nat_lt (limit_of t) (number_of t)) 21 0)
+
+-- the refusal of a word at a stage, 0 for none: unknown, over its limit, out of place, in this order
+abbrev pub refused : Stage → Token → ℕ
+refused s t = cond (is_unknown t) 20 (cond (nat_lt (limit_of t) (number_of t)) 21 (cond (is_some (after s t)) 0 22))
+
+-- the number that a word says
+abbrev pub NumberSays : Token → Result ℕ LineFault → Type 0
+NumberSays t (Ok n) = (refused_alone t ≡ 0) × (n ≡ number_of t) × (n ≤ limit_of t)
+NumberSays t (Err f) = (refused_alone t ≡ line_fault_number f) × (line_fault_place f ≡ place_of t)
+
+-- a reading with one word more
+abbrev pub StepSays : Reading → Token → Result Reading LineFault → Type 0
+StepSays was t (Ok is) = (refused was.stage t ≡ 0) × (after was.stage t ≡ Some is.stage) × (said_of is.line ≡ with_word was.stage (said_of was.line) t (number_of t))
+StepSays was t (Err f) = (refused was.stage t ≡ line_fault_number f) × (line_fault_place f ≡ place_of t)
+
+-- the outcome of a line that ends at a stage: no rule without a word, too short after its head or its arrow
+abbrev pub outcome : {A : Type 0} → Stage → A → ℕ → Result (Option A) LineFault
+outcome Start l end = Ok None
+outcome AfterHead l end = Err (TooShort end)
+outcome AfterArrow l end = Err (TooShort end)
+outcome AfterItem l end = Ok (Some l)
+outcome AfterBlank l end = Ok (Some l)
+outcome AfterCost l end = Ok (Some l)
+
+-- nothing said yet
+abbrev pub bare_said : Said
+bare_said = record { head = 0; right = []; cost = 0 }
+
+-- what a reading gives, with what its rule line holds
+abbrev pub said_result : Result (Option RuleLine) LineFault → Result (Option Said) LineFault
+said_result (Ok None) = Ok None
+said_result (Ok (Some l)) = Ok (Some (said_of l))
+said_result (Err f) = Err f
+
+-- no word begins in at..end
+abbrev pub NoWord : List ℕ → ℕ → ℕ → Type 0
+NoWord text at end = (k : ℕ) → at ≤ k → k < end → parts (slice_index text k) ≡ true
+
+-- the first word that begins in at..end, with its kind and its place
+abbrev pub NextWord : List ℕ → ℕ → ℕ → Token → Type 0
+NextWord text at end t = IsWord text at (place_of t) (word_of t) × (place_of t < end) × Sound t
+
+-- what the words of at..end give, read at a stage, with what is said so far
+pub data Reads (text : List ℕ) (end : ℕ) : ℕ → Stage → Said → Result (Option Said) LineFault → Type 0 where
+  -- no word is left
+  ends : {at : ℕ} {s : Stage} {l : Said} → NoWord text at end → Reads text end at s l (outcome s l end)
+  -- the next word is refused
+  stops : {at : ℕ} {s : Stage} {l : Said} (t : Token) (f : LineFault) → NextWord text at end t → refused s t ≡ line_fault_number f → line_fault_place f ≡ place_of t → Reads text end at s l (Err f)
+  -- the next word is read, and the rest after it
+  reads : {at : ℕ} {s n : Stage} {l : Said} {r : Result (Option Said) LineFault} (t : Token) → NextWord text at end t → refused s t ≡ 0 → after s t ≡ Some n → Reads text end (place_of t + length (word_of t)) n (with_word s l t (number_of t)) r → Reads text end at s l r
+
+-- a refusal lies within the line, and a rule's numbers within their limits
+abbrev pub Limits : ℕ → Result (Option RuleLine) LineFault → Type 0
+Limits end (Ok None) = Unit {0}
+Limits end (Ok (Some l)) = (l.head ≤ 31) × ((k : ℕ) → slice_index (take l.len l.items) k < 64) × (l.cost ≤ 65535)
+Limits end (Err f) = line_fault_place f ≤ end
+
+-- what the words of from..end give as a line
+abbrev pub LineSays : List ℕ → ℕ → ℕ → Result (Option RuleLine) LineFault → Type 0
+LineSays text from end r = Reads text end from Start bare_said (said_result r)
+
+-- and they give nothing else
+abbrev pub NothingElse : List ℕ → ℕ → ℕ → Result (Option RuleLine) LineFault → Type 0
+NothingElse text from end r = (q : Result (Option Said) LineFault) → Reads text end from Start bare_said q → q ≡ said_result r

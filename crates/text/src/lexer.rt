@@ -1,5 +1,5 @@
 ghost use Rattle.std.specs.Prelude.{◌≡◌};
-ghost use Rattle.text.specs.Kinds.{kind, word_of, place_of, kind_of};
+ghost use Rattle.text.specs.Kinds.{kind, word_of, place_of, kind_of, Sound};
 ghost use Rattle.text.specs.Fixed.{IsFixed};
 
 use crate::digits::is_numeral;
@@ -26,6 +26,7 @@ fn fixed_word(word: &[u8]) -> FixedWord
 pub fn classify(word: &[u8], at: usize) -> Token<'_>
     ensures word { word_of result ≡ word.now }
     ensures place { place_of result ≡ at }
+    ensures sound { Sound result }
     ensures is { kind_of result ≡ kind word.now }
 {
     match fixed_word(word) {

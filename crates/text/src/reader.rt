@@ -1,95 +1,144 @@
-// Reads the words of a line, part by part: the head, the arrow, the right side, the cost. The text ends where the line ends.
-ghost use Rattle.std.specs.Prelude.{◌≡◌, [], length, take, drop};
+ghost use Rattle.std.specs.Prelude.{◌≡◌, ◌<◌, ◌≤◌, true, length, drop, MatchResult};
+ghost use Rattle.text.specs.Kinds.{place_of, Sound};
+ghost use Rattle.text.specs.Numbers.{decimal, all_digits};
+ghost use Rattle.text.specs.Stages.{after};
+ghost use Rattle.text.specs.Limits.{limit_of};
+ghost use Rattle.text.specs.Lines.{said_of, with_word, NumberSays, StepSays, outcome, LineSays, NothingElse, Limits};
 ghost use Rattle.text.specs.Words.{words};
-ghost use Rattle.text.specs.Lines.{cost_part, item_part, right_part, arrow_part, line, said, line_said, in_nine};
+ghost use Rattle.text.specs.Outcomes.{line, line_said, in_nine};
 
+use crate::digits::number;
 use crate::fault::LineFault;
 use crate::lexer::classify;
+use crate::reading::{Reading, Stage};
 use crate::rule_line::RuleLine;
 use crate::token::Token;
-use crate::tokens::{cost_of, head_of, item_of, misplaced};
 use crate::words::next_word;
 
-// What comes behind the right side: at most a cost.
-fn cost_behind(text: &[u8], from: usize, line: RuleLine) -> Result<RuleLine, LineFault>
-    requires { line.cost ≡ 0 }
-    ensures { said result ≡ cost_part line.head (take line.len line.items) (words from (drop from text.now)) }
+// The place of a token's word.
+fn place_of(token: Token<'_>) -> usize
+    ensures { result ≡ place_of token.entry }
 {
-    let Some(word) = next_word(text, from) else {
-        return Ok(line);
-    };
-    let token = classify(word.bytes, word.place);
-    let Some(cost) = cost_of(token) else {
-        return Err(misplaced(token));
-    };
-    match next_word(text, word.place + word.bytes.len()) {
-        Some(more) => Err(misplaced(classify(more.bytes, more.place))),
-        None => Ok(line.with_cost(cost)),
+    match token {
+        Token::Arrow(_, at) | Token::Blank(_, at) => at,
+        Token::Head(_, at) | Token::Pattern(_, at) => at,
+        Token::Cost(_, at) | Token::Unknown(_, at) => at,
     }
 }
 
-// What comes behind an item: further items, then at most a cost.
-fn items_behind(text: &[u8], from: usize, line: RuleLine) -> Result<RuleLine, LineFault>
-    requires { line.cost ≡ 0 }
-    ensures { said result ≡ in_nine (item_part line.head (take line.len line.items) (words from (drop from text.now))) }
+// The number after a word's letter, refused over a limit.
+fn lettered_number(word: &[u8], at: usize, limit: u32) -> Result<u32, LineFault>
+    requires { (0 < length word.now) × (all_digits (drop 1 word.now) ≡ true) }
+    ensures { MatchResult result (λ n. (n ≡ decimal (drop 1 word.now)) × (n ≤ limit)) (λ f. (f ≡ LineFault.OverLimit at) × (limit < decimal (drop 1 word.now))) }
 {
-    let mut longer = line;
+    match number(&word[1..], limit) {
+        Some(n) => Ok(n),
+        None => Err(LineFault::OverLimit(at)),
+    }
+}
+
+// The number that a word says, 0 of one without: an unknown word and one over its limit are refused.
+fn number_of(token: Token<'_>) -> Result<u32, LineFault>
+    requires { Sound token }
+    ensures { NumberSays token.entry result }
+{
+    match token {
+        Token::Arrow(..) | Token::Blank(..) => Ok(0),
+        Token::Head(word, at) => lettered_number(word, at, 31),
+        Token::Pattern(word, at) => lettered_number(word, at, 31),
+        Token::Cost(word, at) => lettered_number(word, at, 65535),
+        Token::Unknown(_, at) => Err(LineFault::Unknown(at)),
+    }
+}
+
+// The stage after a word, if the word may stand there.
+fn next_stage(stage: Stage, token: Token<'_>) -> Option<Stage>
+    ensures { result ≡ after stage token.entry }
+{
+    match token {
+        Token::Head(..) => match stage {
+            Stage::Start => Some(Stage::AfterHead),
+            Stage::AfterArrow | Stage::AfterItem => Some(Stage::AfterItem),
+            _ => None,
+        },
+        Token::Arrow(..) => match stage {
+            Stage::AfterHead => Some(Stage::AfterArrow),
+            _ => None,
+        },
+        Token::Blank(..) => match stage {
+            Stage::AfterArrow => Some(Stage::AfterBlank),
+            _ => None,
+        },
+        Token::Pattern(..) => match stage {
+            Stage::AfterArrow | Stage::AfterItem => Some(Stage::AfterItem),
+            _ => None,
+        },
+        Token::Cost(..) => match stage {
+            Stage::AfterItem | Stage::AfterBlank => Some(Stage::AfterCost),
+            _ => None,
+        },
+        Token::Unknown(..) => None,
+    }
+}
+
+// The line with a word's number in its place.
+fn with_word(was: Reading, token: Token<'_>, n: u32) -> RuleLine
+    requires { n ≤ limit_of token }
+    ensures { said_of result ≡ with_word was.stage (said_of was.line) token.entry n }
+{
+    match token {
+        Token::Head(..) => match was.stage {
+            Stage::Start => was.line.with_head(n as u8),
+            _ => was.line.with_item(n as u8),
+        },
+        Token::Pattern(..) => was.line.with_item(32 + n as u8),
+        Token::Cost(..) => was.line.with_cost(n as u16),
+        Token::Arrow(..) | Token::Blank(..) | Token::Unknown(..) => was.line,
+    }
+}
+
+// Reads one word more: its kind, its number and its place are tested in this order.
+fn step(was: Reading, token: Token<'_>) -> Result<Reading, LineFault>
+    requires { Sound token }
+    ensures { StepSays was token.entry result }
+{
+    let n = number_of(token)?;
+    let Some(stage) = next_stage(was.stage, token) else {
+        return Err(LineFault::OutOfPlace(place_of(token)));
+    };
+    Ok(Reading {
+        stage,
+        line: with_word(was, token, n),
+    })
+}
+
+// What a line says that ends here.
+fn finished(reading: Reading, end: usize) -> Result<Option<RuleLine>, LineFault>
+    ensures { result ≡ outcome reading.stage reading.line end }
+{
+    match reading.stage {
+        Stage::Start => Ok(None),
+        Stage::AfterHead | Stage::AfterArrow => Err(LineFault::TooShort(end)),
+        Stage::AfterItem | Stage::AfterBlank | Stage::AfterCost => Ok(Some(reading.line)),
+    }
+}
+
+// The rule that the words of from..end say, or none where there is no word.
+pub fn rule_line(text: &[u8], from: usize, end: usize) -> Result<Option<RuleLine>, LineFault>
+    requires { end ≤ length text.now }
+    ensures says { LineSays text.now from end result }
+    ensures only { NothingElse text.now from end result }
+    ensures limits { Limits end result }
+    ensures means { end ≡ length text.now → line_said result ≡ in_nine (line (length text.now) (words from (drop from text.now))) }
+{
+    let mut reading = Reading {
+        stage: Stage::Start,
+        line: RuleLine::bare(),
+    };
     let mut at = from;
-    while let Some(word) = next_word(text, at) {
-        let Some(item) = item_of(classify(word.bytes, word.place)) else {
-            break;
-        };
-        longer = longer.with_item(item);
+    while let Some(word) = next_word(text, at, end) {
+        reading = step(reading, classify(word.bytes, word.place))?;
         at = word.place + word.bytes.len();
     }
-    cost_behind(text, at, longer)
-}
-
-// What comes behind the arrow: blank or an item.
-fn right_behind(text: &[u8], from: usize, line: RuleLine) -> Result<RuleLine, LineFault>
-    requires { (take line.len line.items ≡ []) × (line.cost ≡ 0) }
-    ensures { said result ≡ in_nine (right_part (length text.now) line.head (words from (drop from text.now))) }
-{
-    let Some(word) = next_word(text, from) else {
-        return Err(LineFault::TooShort(text.len()));
-    };
-    let token = classify(word.bytes, word.place);
-    let behind = word.place + word.bytes.len();
-    if let Token::Blank(..) = token {
-        return cost_behind(text, behind, line);
-    }
-    match item_of(token) {
-        Some(item) => items_behind(text, behind, line.with_item(item)),
-        None => Err(misplaced(token)),
-    }
-}
-
-// What comes behind the head: the arrow.
-fn arrow_behind(text: &[u8], from: usize, line: RuleLine) -> Result<RuleLine, LineFault>
-    requires { (take line.len line.items ≡ []) × (line.cost ≡ 0) }
-    ensures { said result ≡ in_nine (arrow_part (length text.now) line.head (words from (drop from text.now))) }
-{
-    let Some(word) = next_word(text, from) else {
-        return Err(LineFault::TooShort(text.len()));
-    };
-    let token = classify(word.bytes, word.place);
-    let Token::Arrow(..) = token else {
-        return Err(misplaced(token));
-    };
-    right_behind(text, word.place + word.bytes.len(), line)
-}
-
-// The rule that the words from a place to the end of the text say, or none where there is no word.
-pub fn rule_line(text: &[u8], from: usize) -> Result<Option<RuleLine>, LineFault>
-    ensures { line_said result ≡ in_nine (line (length text.now) (words from (drop from text.now))) }
-{
-    let Some(word) = next_word(text, from) else {
-        return Ok(None);
-    };
-    let token = classify(word.bytes, word.place);
-    let Some(head) = head_of(token) else {
-        return Err(misplaced(token));
-    };
-    let line = arrow_behind(text, word.place + word.bytes.len(), RuleLine::of(head))?;
-    Ok(Some(line))
+    finished(reading, end)
 }

@@ -1,4 +1,4 @@
-ghost use Rattle.std.specs.Prelude.{◌≡◌, ◌≤◌, [], ◌∷◌, ◌++◌, length, take};
+ghost use Rattle.std.specs.Prelude.{◌≡◌, ℕ, ◌<◌, ◌≤◌, [], ◌∷◌, ◌++◌, length, take, slice_index};
 
 // A rule as a line says it: head h is h, pattern t is 32 + t. Nine items stand for nine or more.
 #[derive(Clone, Copy)]
@@ -9,17 +9,20 @@ pub struct RuleLine {
     cost: u16,
     ghost sized: { length items ≡ 9 },
     ghost short: { len ≤ 9 },
+    ghost named: { head ≤ 31 },
+    ghost known: { (k : ℕ) → slice_index items k < 64 },
+    ghost held: { cost ≤ 65535 },
 }
 
 impl RuleLine {
-    // A head, with no items and cost 0.
-    pub(crate) fn of(head: u8) -> RuleLine
-        ensures head { result.head ≡ head }
+    // No items, head 0, cost 0.
+    pub(crate) fn bare() -> RuleLine
+        ensures head { result.head ≡ 0 }
         ensures right { take result.len result.items ≡ [] }
         ensures cost { result.cost ≡ 0 }
     {
         RuleLine {
-            head,
+            head: 0,
             items: [0; 9],
             len: 0,
             cost: 0,
@@ -45,8 +48,20 @@ impl RuleLine {
         self.cost
     }
 
+    pub(crate) fn with_head(self, head: u8) -> RuleLine
+        requires { head ≤ 31 }
+        ensures head { result.head ≡ head }
+        ensures right { take result.len result.items ≡ take self.len self.items }
+        ensures cost { result.cost ≡ self.cost }
+    {
+        let mut line = self;
+        line.head = head;
+        line
+    }
+
     // One item more at the end; the tenth and further ones are dropped.
     pub(crate) fn with_item(self, item: u8) -> RuleLine
+        requires { item < 64 }
         ensures head { result.head ≡ self.head }
         ensures right { take result.len result.items ≡ take 9 (take self.len self.items ++ (item ∷ [])) }
         ensures cost { result.cost ≡ self.cost }

@@ -1,5 +1,5 @@
 ghost use Rattle.std.specs.Prelude.{◌≡◌, ℕ, ◌+◌, ◌<◌, ◌≤◌, true, false, [], ◌∷◌, length, drop, MatchOption, slice_index};
-ghost use Rattle.text.specs.Words.{parts, piece, words, IsLineEnd};
+ghost use Rattle.text.specs.Words.{parts, piece, words, IsWord, IsLineEnd};
 
 // A word and its byte place in the text.
 #[derive(Clone, Copy)]
@@ -27,19 +27,19 @@ pub fn line_end(text: &[u8], from: usize) -> usize
     text.len()
 }
 
-// The first place from a place on whose byte parts no words, or the end of the text.
-fn word_start(text: &[u8], from: usize) -> usize
-    requires { from ≤ length text.now }
-    ensures within { (from ≤ result) × (result ≤ length text.now) }
+// The first place of from..end whose byte parts no words, or the end.
+fn word_start(text: &[u8], from: usize, end: usize) -> usize
+    requires { (from ≤ end) × (end ≤ length text.now) }
+    ensures within { (from ≤ result) × (result ≤ end) }
     ensures before { (k : ℕ) → from ≤ k → k < result → parts (slice_index text.now k) ≡ true }
-    ensures found { result < length text.now → parts (slice_index text.now result) ≡ false }
+    ensures found { result < end → parts (slice_index text.now result) ≡ false }
 {
-    for i in from..text.len() {
+    for i in from..end {
         if !is_gap(text[i]) {
             return i;
         }
     }
-    text.len()
+    end
 }
 
 // The first place from a place on whose byte parts words, or the end of the text.
@@ -57,16 +57,17 @@ fn word_end(text: &[u8], from: usize) -> usize
     text.len()
 }
 
-// The first word of what stands from a place on.
-pub fn next_word(text: &[u8], from: usize) -> Option<Word<'_>>
-    ensures is { MatchOption result (words from (drop from text.now) ≡ []) (λ w. words from (drop from text.now) ≡ piece w.place w.bytes.now ∷ words (w.place + length w.bytes.now) (drop (w.place + length w.bytes.now) text.now)) }
-    ensures inside { MatchOption result (from ≤ from) (λ w. (from < w.place + length w.bytes.now) × (w.place + length w.bytes.now ≤ length text.now)) }
+// The next word that begins in from..end.
+pub fn next_word(text: &[u8], from: usize, end: usize) -> Option<Word<'_>>
+    ensures found { MatchOption result ((k : ℕ) → from ≤ k → k < end → k < length text.now → parts (slice_index text.now k) ≡ true) (λ w. IsWord text.now from w.place w.bytes.now × (w.place < end)) }
+    ensures is { end ≡ length text.now → MatchOption result (words from (drop from text.now) ≡ []) (λ w. words from (drop from text.now) ≡ piece w.place w.bytes.now ∷ words (w.place + length w.bytes.now) (drop (w.place + length w.bytes.now) text.now)) }
 {
-    if from >= text.len() {
+    let stop = end.min(text.len());
+    if from >= stop {
         return None;
     }
-    let place = word_start(text, from);
-    if place == text.len() {
+    let place = word_start(text, from, stop);
+    if place == stop {
         return None;
     }
     let past = word_end(text, place);

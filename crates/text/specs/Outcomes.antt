@@ -1,0 +1,215 @@
+-- What the words of a line give.
+use Rattle.std.specs.Prelude.{◌≡◌, ℕ, ◌+◌, ◌-◌, ◌<◌, ◌≤◌, Bool, true, false, cond, ◌⊎◌, List, [], ◌∷◌, ◌++◌, map, length, take, Some, None, Ok, Err, decimal, Option, Result, nat_le, nat_lt}
+use Rattle.grammar.specs.Lists.{Mem, each}
+use Rattle.grammar.specs.Productions.{Production}
+use Rattle.text.specs.Faults.{line_fault_number, line_fault_place}
+use Rattle.text.specs.Kinds.{Kind, arrow, blank, head, pattern, cost, unknown, arrow_text, blank_text, kind}
+use Rattle.text.specs.Words.{Piece}
+use Rattle.text.specs.declared.fault.LineFault.{LineFault}
+use Rattle.text.specs.declared.rule_line.RuleLine.{RuleLine}
+
+-- what a line gives: nothing, a rule, or a refusal with its number and its byte place
+pub data Outcome : Type 0 where
+  nothing : Outcome
+  rule : Production → Outcome
+  fault : ℕ → ℕ → Outcome
+
+-- a production of a head, a right side and a cost
+abbrev pub written : ℕ → List ℕ → ℕ → Production
+written h right c = record { head = h; right = right; cost = c }
+
+-- the number of the refusal of a word that may not stand where it does: unknown, over its limit, or else out of place
+abbrev pub refusal_of : Kind → ℕ
+refusal_of arrow = 22
+refusal_of blank = 22
+refusal_of (head n) = cond (nat_lt 31 n) 21 22
+refusal_of (pattern n) = cond (nat_lt 31 n) 21 22
+refusal_of (cost n) = cond (nat_lt 65535 n) 21 22
+refusal_of unknown = 20
+
+-- a head within its limit
+abbrev pub head_of : Kind → Option ℕ
+head_of arrow = None
+head_of blank = None
+head_of (head n) = cond (nat_le n 31) (Some n) None
+head_of (pattern n) = None
+head_of (cost n) = None
+head_of unknown = None
+
+-- an item within its limit: head h is h, pattern t is 32 + t
+abbrev pub item_of : Kind → Option ℕ
+item_of arrow = None
+item_of blank = None
+item_of (head n) = cond (nat_le n 31) (Some n) None
+item_of (pattern n) = cond (nat_le n 31) (Some (32 + n)) None
+item_of (cost n) = None
+item_of unknown = None
+
+-- a cost within its limit
+abbrev pub cost_of : Kind → Option ℕ
+cost_of arrow = None
+cost_of blank = None
+cost_of (head n) = None
+cost_of (pattern n) = None
+cost_of (cost n) = cond (nat_le n 65535) (Some n) None
+cost_of unknown = None
+
+abbrev pub is_arrow : Kind → Bool
+is_arrow arrow = true
+is_arrow blank = false
+is_arrow (head n) = false
+is_arrow (pattern n) = false
+is_arrow (cost n) = false
+is_arrow unknown = false
+
+abbrev pub is_blank : Kind → Bool
+is_blank arrow = false
+is_blank blank = true
+is_blank (head n) = false
+is_blank (pattern n) = false
+is_blank (cost n) = false
+is_blank unknown = false
+
+-- one thing of what is there, another of nothing
+abbrev pub by : {A : Type 0} → Option ℕ → A → (ℕ → A) → A
+by None x f = x
+by (Some n) x f = f n
+
+-- the refusal of a word where it stands
+abbrev pub misplaced : Piece → Outcome
+misplaced w = fault (refusal_of (kind w.bytes)) w.place
+
+-- no word may come
+abbrev pub no_more : Outcome → List Piece → Outcome
+no_more o [] = o
+no_more o (w ∷ ws) = misplaced w
+
+-- behind the right side: at most a cost
+abbrev pub cost_part : ℕ → List ℕ → List Piece → Outcome
+cost_part h is [] = rule (written h is 0)
+cost_part h is (w ∷ ws) = by (cost_of (kind w.bytes)) (misplaced w) (λ c. no_more (rule (written h is c)) ws)
+
+-- behind some items: further items, then at most a cost
+unfoldable pub item_part : ℕ → List ℕ → List Piece → Outcome
+item_part h is [] = cost_part h is []
+item_part h is (w ∷ ws) = by (item_of (kind w.bytes)) (cost_part h is (w ∷ ws)) (λ i. item_part h (is ++ (i ∷ [])) ws)
+
+-- behind the arrow, in a line that ends at a place: blank or an item
+abbrev pub right_part : ℕ → ℕ → List Piece → Outcome
+right_part end h [] = fault 23 end
+right_part end h (w ∷ ws) = cond (is_blank (kind w.bytes)) (cost_part h [] ws) (by (item_of (kind w.bytes)) (misplaced w) (λ i. item_part h (i ∷ []) ws))
+
+-- behind the head: the arrow
+abbrev pub arrow_part : ℕ → ℕ → List Piece → Outcome
+arrow_part end h [] = fault 23 end
+arrow_part end h (w ∷ ws) = cond (is_arrow (kind w.bytes)) (right_part end h ws) (misplaced w)
+
+-- what the words of a line that ends at a place give: a head, the arrow, the right side, at most a cost
+abbrev pub line : ℕ → List Piece → Outcome
+line end [] = nothing
+line end (w ∷ ws) = by (head_of (kind w.bytes)) (misplaced w) (λ h. arrow_part end h ws)
+
+-- Law
+
+-- the kinds of words
+abbrev pub kinds : List Piece → List Kind
+kinds ws = map (λ (w : Piece). kind w.bytes) ws
+
+-- the word of an item
+abbrev pub item_kind : ℕ → Kind
+item_kind i = cond (nat_lt i 32) (head i) (pattern (i - 32))
+
+-- the words of a right side
+abbrev pub right_kinds : List ℕ → List Kind
+right_kinds [] = blank ∷ []
+right_kinds (i ∷ is) = map item_kind (i ∷ is)
+
+-- a production that can be written: each number within its limit
+pub record Writable (p : Production) : Type 0 where
+  pub low_head : p.head ≤ 31
+  pub low_items : (i : ℕ) → Mem i p.right → i < 64
+  pub low_cost : p.cost ≤ 65535
+
+-- the words of a production but for its cost
+abbrev pub front_kinds : Production → List Kind
+front_kinds p = head p.head ∷ (arrow ∷ right_kinds p.right)
+
+-- the words say the production: its head, an arrow, its right side, its cost; a cost of 0 may be left out
+abbrev pub Says : List Kind → Production → Type 0
+Says ks p = Writable p × ((ks ≡ front_kinds p ++ (cost p.cost ∷ [])) ⊎ ((ks ≡ front_kinds p) × (p.cost ≡ 0)))
+
+-- a sound line can begin with these words
+abbrev pub Begins : List Kind → Type 0
+Begins ks = (p : Production) × ((more : List Kind) × Says (ks ++ more) p)
+
+-- a word is refused: a sound line can begin with the words before it, and with it no longer
+pub record WordRefused (ws : List Piece) (n at : ℕ) : Type 0 where
+  pub before : List Piece
+  pub word : Piece
+  pub after : List Piece
+  pub are : ws ≡ before ++ (word ∷ after)
+  pub begins : Begins (kinds before)
+  pub no_longer : Begins (kinds before ++ (kind word.bytes ∷ [])) → ⊥
+  pub number : n ≡ refusal_of (kind word.bytes)
+  pub place : at ≡ word.place
+
+-- the line is too short: a sound line can begin with its words, of which there are some, and they are none
+pub record LineTooShort (end : ℕ) (ws : List Piece) (n at : ℕ) : Type 0 where
+  pub some : 0 < length ws
+  pub begins : Begins (kinds ws)
+  pub not_sound : (p : Production) → Says (kinds ws) p → ⊥
+  pub number : n ≡ 23
+  pub place : at ≡ end
+
+-- what an outcome of a line means
+abbrev pub Means : ℕ → List Piece → Outcome → Type 0
+Means end ws nothing = ws ≡ []
+Means end ws (rule p) = Says (kinds ws) p
+Means end ws (fault n at) = WordRefused ws n at ⊎ LineTooShort end ws n at
+
+-- A production as text
+
+-- how a word of that kind is written
+abbrev pub word_text : Kind → List ℕ
+word_text arrow = arrow_text
+word_text blank = blank_text
+word_text (head n) = 72 ∷ decimal n
+word_text (pattern n) = 80 ∷ decimal n
+word_text (cost n) = 35 ∷ decimal n
+word_text unknown = []
+
+-- words with a space before each but the first
+abbrev pub spaced : List (List ℕ) → List ℕ
+spaced [] = []
+spaced (w ∷ ws) = w ++ each (λ (v : List ℕ). 32 ∷ v) ws
+
+-- a production as a line: its words, its cost the last
+abbrev pub line_text : Production → List ℕ
+line_text p = spaced (map word_text (front_kinds p ++ (cost p.cost ∷ [])))
+
+-- Answers of the reader
+
+-- what a rule line holds
+abbrev pub production_said : RuleLine → Production
+production_said l = written l.head (take l.len l.items) l.cost
+
+-- what a reader of the rest of a line gives
+abbrev pub said : Result RuleLine LineFault → Outcome
+said (Ok l) = rule (production_said l)
+said (Err f) = fault (line_fault_number f) (line_fault_place f)
+
+-- what the reader of a line gives
+abbrev pub line_said : Result (Option RuleLine) LineFault → Outcome
+line_said (Ok None) = nothing
+line_said (Ok (Some l)) = rule (production_said l)
+line_said (Err f) = fault (line_fault_number f) (line_fault_place f)
+
+-- a production with its first nine items, which stand for nine and more: a book refuses both alike
+abbrev pub first_nine : Production → Production
+first_nine p = written p.head (take 9 p.right) p.cost
+
+-- an outcome with the first nine items
+abbrev pub in_nine : Outcome → Outcome
+in_nine nothing = nothing
+in_nine (rule p) = rule (first_nine p)
+in_nine (fault n at) = fault n at
