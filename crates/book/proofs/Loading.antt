@@ -4,7 +4,7 @@ use Rattle.std.proofs.lemmas.List.{take_all, length-take, length-take-le, length
 use Rattle.std.proofs.lemmas.Bool.{both_ways, cases_Bool, cases_lt, cond-true, cond-false, eq-eqb, ne_eqb, leb-false, leb-true, le-leb, lt-ltb, le-ltb}
 use Rattle.std.proofs.lemmas.Bool.Decides.{nat_tests}
 use Rattle.text.specs.Words.{Piece, piece, pieces, ends_line, lines, words, line_words, IsLineEnd}
-use Rattle.text.specs.Lines.{Outcome, nothing, rule, fault, written, line, line_text, Writable, first_nine, in_nine}
+use Rattle.text.specs.Outcomes.{Outcome, nothing, rule, fault, written, line, line_text, Writable, first_nine, in_nine}
 use Rattle.text.proofs.Wording.{pieces_last, pieces_split, line_at}
 use Rattle.text.proofs.Cutting.{cut_into}
 use Rattle.text.proofs.Spelled.{of_kind}

@@ -3,7 +3,7 @@ use Rattle.std.specs.Prelude.{◌≡◌, ℕ, suc, ◌+◌, ◌≤◌, Bool, tru
 use Rattle.text.specs.declared.fault.LineFault.{LineFault}
 use Rattle.text.specs.Kinds.{OfKind}
 use Rattle.text.specs.Words.{Piece, lines, line_words, CutInto}
-use Rattle.text.specs.Lines.{Outcome, nothing, rule, fault, line, line_text, kinds, Says, Means}
+use Rattle.text.specs.Outcomes.{Outcome, nothing, rule, fault, line, line_text, kinds, Says, Means}
 use Rattle.grammar.specs.Lists.{Mem}
 use Rattle.grammar.specs.Productions.{Production}
 use Rattle.book.specs.Faults.{load_number, load_place}
@@ -14,6 +14,18 @@ use Rattle.book.specs.declared.fault.LoadFault.TheVariants.{Line}
 -- the fault of a line, as the load's
 abbrev pub line_fault : LineFault → LoadFault
 line_fault f = Line f
+
+-- a line was loaded: whether it was offered, and then its rule came at the end
+abbrev pub LineLoaded : List ℕ → List Production → List Production → Result Bool LoadFault → Type 0
+LineLoaded text was is (Ok true) = (p : Production) × (is ≡ was ++ (p ∷ []))
+LineLoaded text was is (Ok false) = is ≡ was
+LineLoaded text was is (Err f) = (is ≡ was) × (20 ≤ load_number f) × (load_number f ≤ 24) × (load_place f ≤ length text)
+
+-- a text was loaded into a book that held the rules `was`: those stand, rules may have come after them, and the answer is how
+-- many lines were offered; or it is refused with one of the numbers 20 to 24 and a place within the text
+abbrev pub Loaded : List ℕ → List Production → List Production → Result ℕ LoadFault → Type 0
+Loaded text was is (Ok n) = (more : List Production) × (is ≡ was ++ more) × (n ≡ length more)
+Loaded text was is (Err f) = (more : List Production) × (is ≡ was ++ more) × (20 ≤ load_number f) × (load_number f ≤ 24) × (load_place f ≤ length text)
 
 -- what a load comes to: the rules then held, and how many lines were offered, or the number and the byte place of the refusal
 pub data Load : Type 0 where

@@ -5,7 +5,7 @@ use Rattle.std.proofs.lemmas.List.{take_more}
 use Rattle.grammar.specs.Lists.{each}
 use Rattle.grammar.specs.Productions.{Production}
 use Rattle.text.specs.Kinds.{cost}
-use Rattle.text.specs.Lines.{item_kind, right_kinds, word_text, line_text}
+use Rattle.text.specs.Outcomes.{item_kind, right_kinds, word_text, line_text}
 
 -- with a space before it
 abbrev pub spaced_word : List ℕ → List ℕ

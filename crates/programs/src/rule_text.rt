@@ -3,7 +3,7 @@ ghost use Rattle.std.specs.Prelude.{◌≡◌, ℕ, ◌≤◌, List, [], ◌∷�
 ghost use Rattle.grammar.specs.Lists.{each};
 ghost use Rattle.grammar.specs.Productions.{Production as Written};
 ghost use Rattle.conversion.specs.Rows.{production_of};
-ghost use Rattle.text.specs.Lines.{item_kind, right_kinds, word_text, line_text};
+ghost use Rattle.text.specs.Outcomes.{item_kind, right_kinds, word_text, line_text};
 ghost use Rattle.book.specs.Offers.{refusal};
 ghost use Rattle.book.specs.Loads.{load, taken};
 

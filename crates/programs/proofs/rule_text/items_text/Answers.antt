@@ -1,7 +1,7 @@
 use Rattle.std.proofs.Common.{ℕ, List, ◌++◌, map, string_bytes, ap, ◌∙◌}
 use Rattle.std.proofs.lemmas.List.{take_all}
 use Rattle.grammar.specs.Lists.{each}
-use Rattle.text.specs.Lines.{item_kind, word_text}
+use Rattle.text.specs.Outcomes.{item_kind, word_text}
 use Rattle.programs.proofs.Texts.{spaced_word, item_more, joined}
 use Rattle.programs.proofs.rule_text.items_text.Goals as goal
 

@@ -1,6 +1,6 @@
 use Rattle.std.proofs.Common.{◌≡◌, ℕ, List, ◌∷◌, map, take, string_bytes}
 use Rattle.grammar.specs.Lists.{each}
-use Rattle.text.specs.Lines.{item_kind, word_text}
+use Rattle.text.specs.Outcomes.{item_kind, word_text}
 use Rattle.programs.proofs.rule_text.items_text.Given as goal
 
 -- the items so far

@@ -1,6 +1,6 @@
 use Rattle.std.proofs.Common.{◌≡◌, ℕ, ◌≤◌, List, [], ◌∷◌, ◌++◌, map, string_bytes, decimal, ap, ◌∙◌, arith}
 use Rattle.grammar.specs.Lists.{each}
-use Rattle.text.specs.Lines.{right_kinds, word_text, line_text}
+use Rattle.text.specs.Outcomes.{right_kinds, word_text, line_text}
 use Rattle.conversion.specs.Rows.{production_of}
 use Rattle.book.specs.Loads.{load}
 use Rattle.book.proofs.Loading.{round_trip}

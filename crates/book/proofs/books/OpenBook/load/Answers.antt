@@ -11,10 +11,11 @@ returns g c =
     let b = c.args.self.now in
     let text = c.args.text.now in
     let T = pattern_count b.table.patterns.now in
-    let says = c.load.ensures.says ∙ ap (λ T. load T (held b.rules) text) b.over in
+    let is = c.load.ensures.is ∙ ap (λ T. load T (held b.rules) text) b.over in
     record {
-      says = says;
+      says = c.load.ensures.says;
+      is = is;
       means = load_means T (held b.rules) text (omega arith);
       table = refl;
-      runs = load_runs T text (held b.rules) (held c.load.new.self) c.load.result says;
+      runs = load_runs T text (held b.rules) (held c.load.new.self) c.load.result is;
     }

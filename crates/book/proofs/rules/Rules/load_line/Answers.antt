@@ -1,8 +1,9 @@
-use Rattle.std.proofs.Common.{◌≡◌, ℕ, List, length, take, drop, Ok, Option, sym, ap, ◌∙◌, arith}
-use Rattle.text.specs.Words.{words}
-use Rattle.text.specs.Lines.{rule, line, said_of, line_said}
+use Rattle.std.proofs.Common.{◌≡◌, ℕ, List, [], length, take, drop, Ok, Option, sym, ap, ◌∙◌, arith}
+use Rattle.text.specs.Words.{Piece, words}
+use Rattle.text.specs.Outcomes.{nothing, rule, line, in_nine, production_said, line_said}
 use Rattle.text.specs.declared.rule_line.RuleLine.{RuleLine}
 use Rattle.conversion.specs.Rows.{written}
+use Rattle.grammar.specs.Productions.{Production}
 use Rattle.book.specs.Offers.{refusal}
 use Rattle.book.specs.Rules.{held}
 use Rattle.book.specs.Loads.{first_place, stopped}
@@ -11,35 +12,37 @@ use Rattle.book.proofs.Refused.{some_refusal}
 use Rattle.book.proofs.rules.Rules.load_line.Goals as goal
 
 -- the rule of a line, as it is offered
-offered_rule : (l : RuleLine) (h : ℕ) (is : List ℕ) (c : ℕ) → h ≡ l.head → is ≡ take l.len l.items → c ≡ l.cost → written h is c ≡ said_of l
+offered_rule : (l : RuleLine) (h : ℕ) (is : List ℕ) (c : ℕ) → h ≡ l.head → is ≡ take l.len l.items → c ≡ l.cost → written h is c ≡ production_said l
 offered_rule l h is c p q r = ap (λ z. written z is c) p ∙ ap (λ z. written l.head z c) q ∙ ap (written l.head (take l.len l.items)) r
 
-pub returns-in-Ok : goal.returns-in-Ok
-returns-in-Ok c =
+-- the words of a line that gives a rule are some
+some_words : (end : ℕ) (ws : List Piece) (p : Production) → rule p ≡ in_nine (line end ws) → ws ≡ [] → ⊥
+some_words end ws p o e = not_rule (o ∙ ap (λ v. in_nine (line end v)) e)
+  where
+    not_rule : rule p ≡ nothing → ⊥
+    not_rule q = cc
+
+pub returns-in-Ok-clause-is : goal.returns-in-Ok-clause-is
+returns-in-Ok-clause-is c whole n =
     let b = c.args.self.now in
     let xs = c.args.text.now in
     let ws = words c.args.from (drop c.args.from xs) in
     let l = c.in-Some.line in
     let q = offered_rule l c.head.result c.right.result.now c.cost.result c.head.ensures c.right.ensures c.cost.ensures in
-    let o = ap rule q ∙ ap (λ (v : Option RuleLine). line_said (Ok v)) (sym c.in-Some.is) ∙ c.in_ok-line.ensures in
+    let o = ap rule q ∙ ap (λ (v : Option RuleLine). line_said (Ok v)) (sym c.in-Some.is) ∙ c.in_ok-line.ensures.means whole in
     let s = c.in-Ok.ensures.says in
-    record {
-      says = λ n. line_admitted b.patterns (held b) (held c.offer.new.self) n (first_place ws) (line (length xs) ws) (written c.head.result c.right.result.now c.cost.result) o s.0 s.2;
-      over = c.in-Ok.ensures.over;
-    }
+    line_admitted b.patterns (held b) (held c.offer.new.self) n (first_place ws) (line (length xs) ws) (written c.head.result c.right.result.now c.cost.result) o s.0 s.2
 
-pub returns-in-Err : goal.returns-in-Err
-returns-in-Err c =
+pub returns-in-Err-clause-is : goal.returns-in-Err-clause-is
+returns-in-Err-clause-is c whole n =
     let b = c.args.self.now in
     let xs = c.args.text.now in
     let ws = words c.args.from (drop c.args.from xs) in
     let l = c.in-Some.line in
     let p = written c.head.result c.right.result.now c.cost.result in
     let q = offered_rule l c.head.result c.right.result.now c.cost.result c.head.ensures c.right.ensures c.cost.ensures in
-    let o = ap rule q ∙ ap (λ (v : Option RuleLine). line_said (Ok v)) (sym c.in-Some.is) ∙ c.in_ok-line.ensures in
+    let o = ap rule q ∙ ap (λ (v : Option RuleLine). line_said (Ok v)) (sym c.in-Some.is) ∙ c.in_ok-line.ensures.means whole in
     let s = c.in-Err.ensures.says in
     let some : refusal b.patterns (held b) p ≡ 0 → ⊥ = λ z. omega (arith, s.0, some_refusal c.in-Err.field-0) in
-    record {
-      says = λ n. ap (stopped (held c.offer.new.self) 24) c.first_word_place.ensures ∙ line_refused b.patterns (held b) (held c.offer.new.self) n (first_place ws) (line (length xs) ws) p o some (ap held s.1);
-      over = c.in-Err.ensures.over;
-    }
+    ap (stopped (held c.offer.new.self) 24) (c.first_place.ensures.is whole (some_words (length xs) ws p o))
+    ∙ line_refused b.patterns (held b) (held c.offer.new.self) n (first_place ws) (line (length xs) ws) p o some (ap held s.1)
