@@ -14,7 +14,8 @@ static PATTERNS: [u8; 32] = *b"abcdefghijklmnopqrstuvwxyz012345";
 
 // Offers a rule. The line says whether it was refused.
 fn offer(heap: Global, book: &mut OpenBook<Bytes>, rule: &str) -> anyhow::Result<String> {
-    let Ok(read) = rule_line(rule.as_bytes(), 0) else {
+    let bytes = rule.as_bytes();
+    let Ok(read) = rule_line(bytes, 0, bytes.len()) else {
         return Err(anyhow!("a rule that is offered is out of form"));
     };
     let Some(line) = read else {
