@@ -18,7 +18,7 @@ use Rattle.conversion.specs.Views.{binarised_of, step_of}
 use Rattle.conversion.specs.Binarised.{rules_held}
 use Rattle.conversion.specs.Held.{Nullables}
 use Rattle.conversion.specs.Linked.{EndsBelow, ChosenChains, all_steps, steps_of}
-use Rattle.conversion.specs.Found.{Reached, Holds}
+use Rattle.conversion.specs.Found.{Holds, StrictIn}
 use Rattle.conversion.specs.Forms.{FormOf}
 use Rattle.conversion.proofs.Divided.{split_is}
 use Rattle.conversion.proofs.Walking.{ends_below, link_leads}
@@ -30,8 +30,7 @@ pub record Parts (W : Book) (b : BinarisedRules) (n : Nullable) (u : UnitSteps) 
   pub nullables : (S : ℕ) → S ≤ 128 → Bounded (binarised_of (take b.count b.rules) S) → Nullables (binarised_of (take b.count b.rules) S) n
   pub steps : (S : ℕ) → Nullables (binarised_of (take b.count b.rules) S) n → steps_of u ≡ all_steps (binarised_of (take b.count b.rules) S)
   pub chains : (B : Binarised) → B.symbols ≤ 128 → Bounded B → EndsBelow B → steps_of u ≡ all_steps B → ChosenChains B c
-  pub strict : (S : ℕ) → S ≤ 128 → Bounded (binarised_of (take b.count b.rules) S) → Reached (binarised_of (take b.count b.rules) S) c
-      → Holds (strict_rules (binarised_of (take b.count b.rules) S)) s
+  pub strict : StrictIn (take b.count b.rules) c s
 
 -- together they are the strict form
 pub joined : (W : Book) (b : BinarisedRules) (n : Nullable) (u : UnitSteps) (c : Chains) (s : StrictRules) → Sound W → Parts W b n u c s
