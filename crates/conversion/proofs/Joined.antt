@@ -1,20 +1,16 @@
 -- The parts of a conversion together.
-use Rattle.std.proofs.Common.{◌≡◌, ℕ, ◌≤◌, List, map, take, sym, ap, ◌∙◌, subst}
+use Rattle.std.proofs.Common.{◌≡◌, ℕ, ◌≤◌, take, sym, subst}
 use Rattle.grammar.specs.Productions.{Book, Sound}
-use Rattle.grammar.specs.Binarised.{Binarised, Bounded, Has}
-use Rattle.grammar.specs.Binarised.{Right as RightSide}
-use Rattle.grammar.specs.Binarise.{binarised_rules, binarised, Within}
+use Rattle.grammar.specs.Binarised.{Binarised, Bounded}
+use Rattle.grammar.specs.Binarise.{binarised_rules, binarised}
 use Rattle.grammar.specs.Strict.{strict_rules}
 use Rattle.grammar.proofs.BinarisedRules.{binarised_bounded, binarised_within}
-use Rattle.conversion.specs.declared.right.BinarisedRule.{BinarisedRule}
 use Rattle.conversion.specs.declared.binarised.BinarisedRules.{BinarisedRules}
 use Rattle.conversion.specs.declared.nullable.Nullable.{Nullable}
-use Rattle.conversion.specs.declared.chain.UnitStep.{UnitStep}
 use Rattle.conversion.specs.declared.chain.UnitSteps.{UnitSteps}
 use Rattle.conversion.specs.declared.chain.Chains.{Chains}
 use Rattle.conversion.specs.declared.strict.StrictRules.{StrictRules}
-use Rattle.conversion.specs.declared.form.StrictForm.{StrictForm}
-use Rattle.conversion.specs.Views.{binarised_of, step_of}
+use Rattle.conversion.specs.Views.{binarised_of}
 use Rattle.conversion.specs.Binarised.{rules_held}
 use Rattle.conversion.specs.Held.{Nullables}
 use Rattle.conversion.specs.Linked.{EndsBelow, ChosenChains, all_steps, steps_of}

@@ -4,7 +4,7 @@ use Rattle.std.proofs.lemmas.Bool.{both_ways, cases_lt, lt-ltb, or_cases, and_pa
 use Rattle.grammar.specs.Binarise.{Within}
 use Rattle.grammar.specs.Lists.{Mem}
 use Rattle.grammar.specs.Binarised.{Right as RightSide, empty, unit, binary, terminal, Rule, Binarised, Bounded, Has, OwnRule, rules_of, over, fork}
-use Rattle.grammar.specs.Nullable.{ready, next_round, nullable_after, nullable, first_ready, rule_tree, nullable_tree_in, nullable_tree}
+use Rattle.grammar.specs.Nullable.{ready, nullable_after, nullable, first_ready, rule_tree, nullable_tree_in, nullable_tree}
 use Rattle.grammar.specs.Chains.{nothing, the_right, the_left, ChainStep, unit_step, steps, steps_by, nearer, within, first_step, chosen_chain_in, chosen_chain}
 use Rattle.grammar.proofs.Lists.{each_mem, first_from, mem_append}
 use Rattle.grammar.proofs.Rounds.{in_the_end}
