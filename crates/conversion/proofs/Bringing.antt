@@ -10,7 +10,7 @@ use Rattle.grammar.proofs.Lists.{mem_map}
 use Rattle.grammar.proofs.Rounds.{holds_on, in_the_end, settled}
 use Rattle.grammar.proofs.Nullable.{rounds_next, rounds_grow, rounds_small}
 use Rattle.conversion.specs.Views.{right_side_of, rule_of, binarised_of}
-use Rattle.conversion.specs.Held.{Brings, BroughtIn, TableOf, Nullables, sooner}
+use Rattle.conversion.specs.Held.{Brings, WithinRounds, AfterRounds, BroughtIn, Nullables, sooner}
 use Rattle.conversion.specs.declared.right.BinarisedRule.{BinarisedRule}
 use Rattle.conversion.specs.declared.nullable.Brought.{Brought}
 use Rattle.conversion.specs.declared.nullable.Nullable.{Nullable}
@@ -20,34 +20,29 @@ use Rattle.conversion.proofs.Firsts.{some_append, first_append, own_append, get_
 abbrev pub ripe : Binarised → ℕ → OwnRule → Bool
 ripe B k o = ready (nullable_after B k) o.1
 
--- the table after k rounds
-abbrev pub AfterRounds : Binarised → ℕ → Nullable → Type 0
-AfterRounds B k n = TableOf B (nullable_after B k) n
-
 -- what is said of x within round k, after some of its rules
 abbrev pub Amid : Binarised → ℕ → ℕ → List OwnRule → Option Brought → Type 0
 Amid B k x os None = (nullable_after B k x ≡ false) × (some_of (ripe B k) os ≡ false)
-Amid B k x os (Some b) = ((nullable_after B k x ≡ true) × Brings B x b)
+Amid B k x os (Some b) = ((b.round < k) × Brings B x b)
     ⊎ ((b.round ≡ k) × (nullable_after B k x ≡ false) × (some_of (ripe B k) os ≡ true) × ((b.number, right_side_of b.right) ≡ first_of (ripe B k) (zero, empty) os))
 
 -- the table within round k, after some rules
 abbrev pub TableAmid : Binarised → ℕ → List Rule → List (Option Brought) → Type 0
 TableAmid B k rs t = (x : ℕ) → Amid B k x (rules_in x rs) (get_or t x None)
 
-amid_start : (B : Binarised) (k x : ℕ) (o : Option Brought) → BroughtIn B (nullable_after B k) x o → Amid B k x [] o
+amid_start : (B : Binarised) (k x : ℕ) (o : Option Brought) → WithinRounds B k x o → Amid B k x [] o
 amid_start B k x None h = (h, refl)
 amid_start B k x (Some b) h = inl h
 
-amid_end : (B : Binarised) (k x : ℕ) (o : Option Brought) → Amid B k x (rules_of B x) o → BroughtIn B (nullable_after B (suc k)) x o
+amid_end : (B : Binarised) (k x : ℕ) (o : Option Brought) → Amid B k x (rules_of B x) o → WithinRounds B (suc k) x o
 unfolding nullable_after
 amid_end B k x None h = or_from (nullable_after B k x) _ h.0 h.1
-amid_end B k x (Some b) (inl h) = (or_left (nullable_after B k x) _ h.0, h.1)
+amid_end B k x (Some b) (inl h) = (omega (arith, h.0), h.1)
 amid_end B k x (Some b) (inr h) =
-    let e : k ≡ b.round = sym h.0 in
-    let t = or_right (nullable_after B k x) _ h.2 in (
-      t,
+    let e : k ≡ b.round = sym h.0 in (
+      omega (arith, h.0),
       subst (λ j. (nullable_after B j x ≡ false) × (nullable_after B (suc j) x ≡ true) × ((b.number, right_side_of b.right) ≡ first_ready B (nullable_after B j) x)) e
-          (h.1, t, h.3),
+          (h.1, or_right (nullable_after B k x) _ h.2, h.3),
     )
 
 amid_kept : (B : Binarised) (k x : ℕ) (os es : List OwnRule) (b : Brought) → Amid B k x os (Some b) → Amid B k x (os ++ es) (Some b)
@@ -92,8 +87,7 @@ module _ (B : Binarised) (bounded : Bounded B) where
   -- within round k, a round before k brought in what is held after k rounds
   sooner_held : (k x : ℕ) (os : List OwnRule) (o : Option Brought) → Amid B k x os o → sooner k o ≡ nullable_after B k x
   sooner_held k x os None h = sym h.0
-  sooner_held k x os (Some b) (inl h) =
-      lt-ltb b.round k (elim (cases_lt b.round k) [ inl l ↦ l | inr g ↦ absurd (both_ways _ h.1.0 (held_on k b.round x g h.0)) ]) ∙ sym h.0
+  sooner_held k x os (Some b) (inl h) = lt-ltb b.round k h.0 ∙ sym (held_on (suc b.round) k x (omega (arith, h.0)) h.1.1)
   sooner_held k x os (Some b) (inr h) = le-ltb b.round k (omega (arith, h.0)) ∙ sym h.1
 
   pub table_start : (k : ℕ) (n : Nullable) → AfterRounds B k n → TableAmid B k [] n.brought
@@ -156,9 +150,9 @@ module _ (B : Binarised) (bounded : Bounded B) where
         none (Some b) e h = absurd (true≢false e)
 
   -- what a table says after k rounds, if no later round adds anything
-  within_brought : (k x : ℕ) (o : Option Brought) → nullable_after B k x ≡ nullable B x → BroughtIn B (nullable_after B k) x o → BroughtIn B (nullable B) x o
+  within_brought : (k x : ℕ) (o : Option Brought) → nullable_after B k x ≡ nullable B x → WithinRounds B k x o → BroughtIn B x o
   within_brought k x None e h = sym e ∙ h
-  within_brought k x (Some b) e h = (sym e ∙ h.0, h.1)
+  within_brought k x (Some b) e h = (sym e ∙ held_on (suc b.round) k x (omega (arith, h.0)) h.1.1, h.1)
 
   -- as many rounds as symbols, or more
   pub rounds_all : (k : ℕ) (n : Nullable) → B.symbols ≤ k → AfterRounds B k n → Nullables B n
@@ -182,26 +176,26 @@ module _ (B : Binarised) (bounded : Bounded B) where
         (λ y s. same y (get_or m.brought y None) (before y) (g y))))) (before x)
   ]
     where
-      before : AfterRounds B k m
-      before x = subst (λ t. BroughtIn B (nullable_after B k) x (get_or t x None)) (sym e) (h x)
+      before : (x : ℕ) → WithinRounds B k x (get_or m.brought x None)
+      before x = subst (λ t. WithinRounds B k x (get_or t x None)) (sym e) (h x)
 
-      same : (y : ℕ) (o : Option Brought) → BroughtIn B (nullable_after B k) y o → BroughtIn B (nullable_after B (suc k)) y o → nullable_after B (suc k) y ≡ nullable_after B k y
+      same : (y : ℕ) (o : Option Brought) → WithinRounds B k y o → WithinRounds B (suc k) y o → nullable_after B (suc k) y ≡ nullable_after B k y
       same y None p q = q ∙ sym p
-      same y (Some b) p q = q.0 ∙ sym p.0
+      same y (Some b) p q = held_on (suc b.round) (suc k) y (omega (arith, p.0)) p.1.1 ∙ sym (held_on (suc b.round) k y (omega (arith, p.0)) p.1.1)
 
 -- a symbol is held exactly if it is blank
 pub nullable_holds : (B : Binarised) (n : Nullable) → Nullables B n → (x : ℕ) → is_some (get_or n.brought x None) ≡ nullable B x
 nullable_holds B n h x = at (get_or n.brought x None) (h x)
   where
-    at : (o : Option Brought) → BroughtIn B (nullable B) x o → is_some o ≡ nullable B x
+    at : (o : Option Brought) → BroughtIn B x o → is_some o ≡ nullable B x
     at None p = sym p
     at (Some b) p = sym p.0
 
 -- before the first round nothing is held
 pub rounds_start : (B : Binarised) (n : Nullable) → n.brought ≡ replicate 128 None → AfterRounds B 0 n
 unfolding nullable_after
-rounds_start B n e x = subst (λ t. BroughtIn B (nullable_after B 0) x (get_or t x None)) (sym e)
-    (subst (λ o. BroughtIn B (nullable_after B 0) x o) (sym (elim (cases_lt x 128) [
+rounds_start B n e x = subst (λ t. WithinRounds B 0 x (get_or t x None)) (sym e)
+    (subst (λ o. WithinRounds B 0 x o) (sym (elim (cases_lt x 128) [
       | inl l ↦ get_or-replicate 128 x None None l
       | inr g ↦ get_or_past (replicate 128 None) x None (omega (arith, length-replicate {A = Option Brought} 128 None))
     ])) refl)

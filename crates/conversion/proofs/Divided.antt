@@ -1,6 +1,6 @@
 -- The steps by which binarised rules come to be those of a book.
-use Rattle.std.proofs.Common.{◌≡◌, ℕ, zero, suc, ◌+◌, ◌-◌, ◌<◌, ◌≤◌, List, [], ◌∷◌, ◌++◌, map, length, get_or, take, drop, sym, refl, ap, ◌∙◌, subst, ap₂, add-one, arith}
-use Rattle.std.proofs.lemmas.List.{drop_more, drop_all, append_assoc, append-nil, length-append, length-map, get_or-map, map_push, take_all}
+use Rattle.std.proofs.Common.{◌≡◌, ℕ, ◌+◌, ◌<◌, ◌≤◌, List, [], ◌∷◌, ◌++◌, map, length, get_or, take, drop, sym, ap, ◌∙◌, subst, ap₂, add-one, arith}
+use Rattle.std.proofs.lemmas.List.{drop_more, drop_all, append_assoc, append-nil, length-append, length-map, get_or-map, map_push}
 use Rattle.grammar.specs.Lists.{each, below}
 use Rattle.grammar.proofs.Lists.{length_count_up}
 use Rattle.grammar.specs.Binarised.{Rule, rule, binary, Binarised}
@@ -10,10 +10,11 @@ use Rattle.grammar.proofs.Offers.{binarised_next, upto_length}
 use Rattle.grammar.proofs.Tails.{tails_next, tails_whole, tails_within}
 use Rattle.grammar.specs.Productions.{all_tails}
 use Rattle.conversion.specs.declared.production.Production.{Production}
+use Rattle.conversion.specs.declared.right.Right.TheVariants.{Binary, Terminal}
 use Rattle.conversion.specs.declared.binarised.BinarisedRules.{BinarisedRules}
 use Rattle.conversion.specs.Rows.{production_of}
 use Rattle.conversion.specs.Views.{rule_of, binarised_of}
-use Rattle.conversion.specs.Binarised.{rows_book, rules_held, Added, Room, Divided}
+use Rattle.conversion.specs.Binarised.{rows_book, rules_held, Added, Pushed, Tailed, Room, Divided}
 use Rattle.conversion.proofs.Each.{below_more}
 use Rattle.conversion.proofs.Pushes.{held_length}
 
@@ -52,17 +53,17 @@ abbrev pub Whole : BinarisedRules → ℕ → ℕ → ℕ → List ℕ → List 
 Whole b x n k ys = rules_held b ++ binarise_right x n b.symbols (drop k ys)
 
 pub pairs_more : (was mid is : BinarisedRules) (x n z k y t : ℕ) (ys : List ℕ) → k + 2 < length ys
-    → Added was mid [] 1 → z ≡ was.symbols → Added mid is (rule x n (binary y t) ∷ []) 0 → y ≡ get_or ys k 0 → t ≡ z → Whole is z n (k + 1) ys ≡ Whole was x n k ys
-pairs_more was mid is x n z k y t ys h a e p f g =
+    → Tailed was mid z → Pushed mid is x n (Binary y t) → y ≡ get_or ys k 0 → t ≡ z → Whole is z n (k + 1) ys ≡ Whole was x n k ys
+pairs_more was mid is x n z k y t ys h a p f g =
     let m = rule x n (binary (get_or ys k 0) z) in
-    let s : is.symbols ≡ z + 1 = omega (arith, a.1, p.1) in
-    let last : rules_held is ≡ rules_held was ++ (m ∷ []) = p.0 ∙ ap₂ (λ l o. l ++ (rule x n o ∷ [])) (a.0 ∙ append-nil (rules_held was)) (ap₂ binary f g) in
+    let s : is.symbols ≡ z + 1 = omega (arith, a.0.1, a.1, p.1) in
+    let last : rules_held is ≡ rules_held was ++ (m ∷ []) = p.0 ∙ ap₂ (λ l o. l ++ (rule x n o ∷ [])) (a.0.0 ∙ append-nil (rules_held was)) (ap₂ binary f g) in
     ap₂ (λ l j. l ++ binarise_right z n j (drop (k + 1) ys)) last s
     ∙ append_assoc (rules_held was) (m ∷ []) (binarise_right z n (z + 1) (drop (k + 1) ys))
-    ∙ ap (λ l. rules_held was ++ l) (sym (split_more x n z k ys h) ∙ ap (λ j. binarise_right x n j (drop k ys)) e)
+    ∙ ap (λ l. rules_held was ++ l) (sym (split_more x n z k ys h) ∙ ap (λ j. binarise_right x n j (drop k ys)) a.1)
 
 pub pairs_end : (was is : BinarisedRules) (x n k : ℕ) (ys : List ℕ) → k + 2 ≡ length ys
-    → Added was is (rule x n (binary (get_or ys k 0) (get_or ys (k + 1) 0)) ∷ []) 0 → rules_held is ≡ Whole was x n k ys
+    → Pushed was is x n (Binary (get_or ys k 0) (get_or ys (k + 1) 0)) → rules_held is ≡ Whole was x n k ys
 pairs_end was is x n k ys h p = p.0 ∙ ap (λ l. rules_held was ++ l) (sym (split_end x n was.symbols k ys h))
 
 -- the tails of the productions before one
@@ -127,7 +128,7 @@ beyond_count rows T t b few most h e =
     let all = each (binarise_production W) (below n) in
     omega (arith, rules_count b, ap length e.0, length-append all (map terminal_rule (below t)), upto_length W n, tails_whole W, length-map rows production_of, length-map (below t) terminal_rule, length_count_up 0 t)
 
-pub beyond_more : (W : Book) (t : ℕ) (was is : BinarisedRules) → Beyond W t was → Added was is (terminal_rule t ∷ []) 0 → Beyond W (t + 1) is
+pub beyond_more : (W : Book) (t : ℕ) (was is : BinarisedRules) → Beyond W t was → Pushed was is (32 + t) 255 (Terminal t) → Beyond W (t + 1) is
 beyond_more W t was is e p =
     let all = each (binarise_production W) (below (length W.productions)) in (
       p.0 ∙ ap (λ l. l ++ (terminal_rule t ∷ [])) e.0 ∙ append_assoc all (map terminal_rule (below t)) (terminal_rule t ∷ [])

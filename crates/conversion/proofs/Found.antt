@@ -11,7 +11,7 @@ use Rattle.conversion.specs.declared.right.BinarisedRule.{BinarisedRule}
 use Rattle.conversion.specs.declared.chain.Chains.{Chains}
 use Rattle.conversion.specs.declared.strict.StrictRules.{StrictRules}
 use Rattle.conversion.specs.Views.{right_side_of, rule_of, binarised_of}
-use Rattle.conversion.specs.Found.{linked, Reached, proper_right, Holds, Appends, by_end}
+use Rattle.conversion.specs.Found.{linked, Reached, proper_right, Holds, Appends, by_end, by_ends}
 use Rattle.conversion.proofs.Pushes.{held_push, held_length}
 use Rattle.conversion.proofs.Firsts.{own_append}
 use Rattle.conversion.proofs.Each.{those_append, each_those, each_more, each_same, each_shorter}
@@ -94,10 +94,6 @@ pub by_end_other : (r : BinarisedRule) (x y : ℕ) → (r.left ≡ y → ⊥) �
 by_end_other r x y e = by_tests r x y false (proper_right r.right) (ne_eqb r.left y e) refl
 
 -- the ends of a symbol, end by end
-
--- the strict rules of x by the rules of the first n symbols, as far as the table has a chain there
-unfoldable pub by_ends : List BinarisedRule → Chains → ℕ → ℕ → List StrictFormRule
-by_ends rules c x n = each (by_end rules x) (those (linked c x) (below n))
 
 abbrev by_link : List BinarisedRule → Chains → ℕ → ℕ → List StrictFormRule
 by_link rules c x y = cond (linked c x y) (by_end rules x y) []

@@ -1,24 +1,20 @@
 -- The parts of a conversion together.
-use Rattle.std.proofs.Common.{◌≡◌, ℕ, ◌≤◌, List, map, take, sym, ap, ◌∙◌, subst}
+use Rattle.std.proofs.Common.{◌≡◌, ℕ, ◌≤◌, take, sym, subst}
 use Rattle.grammar.specs.Productions.{Book, Sound}
-use Rattle.grammar.specs.Binarised.{Binarised, Bounded, Has}
-use Rattle.grammar.specs.Binarised.{Right as RightSide}
-use Rattle.grammar.specs.Binarise.{binarised_rules, binarised, Within}
+use Rattle.grammar.specs.Binarised.{Binarised, Bounded}
+use Rattle.grammar.specs.Binarise.{binarised_rules, binarised}
 use Rattle.grammar.specs.Strict.{strict_rules}
 use Rattle.grammar.proofs.BinarisedRules.{binarised_bounded, binarised_within}
-use Rattle.conversion.specs.declared.right.BinarisedRule.{BinarisedRule}
 use Rattle.conversion.specs.declared.binarised.BinarisedRules.{BinarisedRules}
 use Rattle.conversion.specs.declared.nullable.Nullable.{Nullable}
-use Rattle.conversion.specs.declared.chain.UnitStep.{UnitStep}
 use Rattle.conversion.specs.declared.chain.UnitSteps.{UnitSteps}
 use Rattle.conversion.specs.declared.chain.Chains.{Chains}
 use Rattle.conversion.specs.declared.strict.StrictRules.{StrictRules}
-use Rattle.conversion.specs.declared.form.StrictForm.{StrictForm}
-use Rattle.conversion.specs.Views.{binarised_of, step_of}
+use Rattle.conversion.specs.Views.{binarised_of}
 use Rattle.conversion.specs.Binarised.{rules_held}
 use Rattle.conversion.specs.Held.{Nullables}
 use Rattle.conversion.specs.Linked.{EndsBelow, ChosenChains, all_steps, steps_of}
-use Rattle.conversion.specs.Found.{Reached, Holds}
+use Rattle.conversion.specs.Found.{Holds, StrictIn}
 use Rattle.conversion.specs.Forms.{FormOf}
 use Rattle.conversion.proofs.Divided.{split_is}
 use Rattle.conversion.proofs.Walking.{ends_below, link_leads}
@@ -30,8 +26,7 @@ pub record Parts (W : Book) (b : BinarisedRules) (n : Nullable) (u : UnitSteps) 
   pub nullables : (S : ℕ) → S ≤ 128 → Bounded (binarised_of (take b.count b.rules) S) → Nullables (binarised_of (take b.count b.rules) S) n
   pub steps : (S : ℕ) → Nullables (binarised_of (take b.count b.rules) S) n → steps_of u ≡ all_steps (binarised_of (take b.count b.rules) S)
   pub chains : (B : Binarised) → B.symbols ≤ 128 → Bounded B → EndsBelow B → steps_of u ≡ all_steps B → ChosenChains B c
-  pub strict : (S : ℕ) → S ≤ 128 → Bounded (binarised_of (take b.count b.rules) S) → Reached (binarised_of (take b.count b.rules) S) c
-      → Holds (strict_rules (binarised_of (take b.count b.rules) S)) s
+  pub strict : StrictIn (take b.count b.rules) c s
 
 -- together they are the strict form
 pub joined : (W : Book) (b : BinarisedRules) (n : Nullable) (u : UnitSteps) (c : Chains) (s : StrictRules) → Sound W → Parts W b n u c s

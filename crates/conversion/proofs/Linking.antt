@@ -5,9 +5,8 @@ use Rattle.std.proofs.lemmas.Bool.Decides.{nat_tests}
 use Rattle.std.proofs.lemmas.Bool.{cases_Bool, cases_eq, cases_lt, cases_order, lt-ltb, le-ltb, eqb-true, eq-eqb, ne_eqb, and_left, and_right, cond-true, cond-false}
 use Rattle.grammar.specs.Binarised.{Binarised}
 use Rattle.grammar.specs.Chains.{within}
-use Rattle.conversion.specs.Linked.{link, leads, shorter, Chosen, ChosenWithin}
+use Rattle.conversion.specs.Linked.{link, leads, shorter, extended, WithinSteps, AfterSteps}
 use Rattle.conversion.specs.declared.chain.UnitStep.{UnitStep}
-use Rattle.conversion.specs.declared.chain.Chain.{Chain}
 use Rattle.conversion.specs.declared.chain.Chain.TheVariants.{Absent, Empty, Steps}
 use Rattle.conversion.specs.declared.chain.Chains.{Chains}
 use Rattle.conversion.proofs.Arrays.{outside}
@@ -15,10 +14,6 @@ use Rattle.conversion.proofs.Arrays.{outside}
 -- a chain from past the table is absent
 past_link : (c : Chains) (x y : ℕ) → 128 ≤ x → link c x y ≡ Absent
 past_link c x y h = outside 128 c.links x y Absent (c.rows, c.columns) (inl h)
-
--- the chain from x to y, with those of k steps that begin with s where there was none
-abbrev pub extended : ℕ → UnitStep → Chains → ℕ → ℕ → Chain
-extended k s c x y = cond (eqb s.from x && (not (leads (link c x y)) && shorter k (link c s.to y))) (Steps k s) (link c x y)
 
 -- the turn of a step's loop over the ends: those below y are done
 module _ (k : ℕ) (s : UnitStep) (c m n : Chains) (y : ℕ) (y< : y < 128) (t : Bool)
@@ -65,11 +60,11 @@ module _ (k : ℕ) (s : UnitStep) (c m n : Chains) (y : ℕ) (y< : y < 128) (t :
               [ inl e ↦ absurd (ne e) | inr o ↦ elim o [ inl l ↦ absurd (omega arith) | inr l ↦ l ] ]
 
 -- from each symbol to itself, and nowhere else
-pub start_links : (B : Binarised) (c : Chains) → ((x y : ℕ) → x < 128 → y < 128 → link c x y ≡ cond (eqb x y) Empty Absent) → ChosenWithin B 0 c
+pub start_links : (B : Binarised) (c : Chains) → ((x y : ℕ) → x < 128 → y < 128 → link c x y ≡ cond (eqb x y) Empty Absent) → AfterSteps B 0 c
 unfolding within
-start_links B c h x y a b = subst (λ o. Chosen B 0 x y o) (sym (h x y a b)) (elim (cases_Bool (eqb x y)) [
-  | inl t ↦ subst (λ v. Chosen B 0 x y (cond v Empty Absent)) (sym t) (eqb-true x y t)
-  | inr f ↦ subst (λ v. Chosen B 0 x y (cond v Empty Absent)) (sym f) f
+start_links B c h x y a b = subst (λ o. WithinSteps B 0 x y o) (sym (h x y a b)) (elim (cases_Bool (eqb x y)) [
+  | inl t ↦ subst (λ v. WithinSteps B 0 x y (cond v Empty Absent)) (sym t) (eqb-true x y t)
+  | inr f ↦ subst (λ v. WithinSteps B 0 x y (cond v Empty Absent)) (sym f) f
 ])
 
 -- a table with no chain

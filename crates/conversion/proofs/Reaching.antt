@@ -10,7 +10,7 @@ use Rattle.grammar.proofs.Lists.{mem_map, some_gives, those_mem}
 use Rattle.grammar.proofs.Rounds.{in_the_end, settled}
 use Rattle.grammar.proofs.Chains.{within_next, within_grows, within_self, within_small}
 use Rattle.conversion.specs.Views.{step_of}
-use Rattle.conversion.specs.Linked.{all_steps, EndsBelow, link, leads, shorter, Shortest, Chosen, ChosenWithin, ChosenChains}
+use Rattle.conversion.specs.Linked.{all_steps, EndsBelow, link, leads, shorter, extended, Shortest, WithinSteps, AfterSteps, Chosen, ChosenChains}
 use Rattle.conversion.specs.declared.chain.UnitStep.{UnitStep}
 use Rattle.conversion.specs.declared.chain.Chain.{Chain}
 use Rattle.conversion.specs.declared.chain.Chain.TheVariants.{Absent, Empty, Steps}
@@ -18,7 +18,6 @@ use Rattle.conversion.specs.declared.chain.Chains.{Chains}
 use Rattle.conversion.proofs.Firsts.{some_append, first_append, get_d_mem}
 use Rattle.conversion.proofs.Each.{those_append}
 use Rattle.conversion.proofs.Stepping.{starts, own_steps}
-use Rattle.conversion.proofs.Linking.{extended}
 
 -- a chain of at most j steps leads to y from where the step ends
 abbrev pub near : Binarised → ℕ → ℕ → ChainStep → Bool
@@ -28,7 +27,7 @@ near B y j s = within B y j s.to
 abbrev pub Between : Binarised → ℕ → ℕ → ℕ → List ChainStep → Chain → Type 0
 Between B j x y os Absent = (within B y j x ≡ false) × (some_of (near B y j) os ≡ false)
 Between B j x y os Empty = x ≡ y
-Between B j x y os (Steps k s) = ((within B y j x ≡ true) × Shortest B x y k s)
+Between B j x y os (Steps k s) = ((k ≤ j) × Shortest B x y k s)
     ⊎ ((k ≡ suc j) × (within B y j x ≡ false) × (some_of (near B y j) os ≡ true) × (step_of s ≡ first_of (near B y j) (unit_step x zero nothing x) os))
 
 -- the table within a round after j, after some steps
@@ -40,24 +39,25 @@ within_on B y k zero x h t = let e : k ≡ 0 = omega arith in subst (λ i. withi
 within_on B y k (suc m) x h t = elim (cases_eq k (suc m))
     [ inl e ↦ subst (λ i. within B y i x ≡ true) e t | inr n ↦ within_grows B y m x (within_on B y k m x (omega arith) t) ]
 
-between_start : (B : Binarised) (j x y : ℕ) (o : Chain) → Chosen B j x y o → Between B j x y [] o
+between_start : (B : Binarised) (j x y : ℕ) (o : Chain) → WithinSteps B j x y o → Between B j x y [] o
 between_start B j x y Absent h = (h, refl)
 between_start B j x y Empty h = h
 between_start B j x y (Steps k s) h = inl h
 
-between_end : (B : Binarised) (j x y : ℕ) (o : Chain) → Between B j x y (steps B x) o → Chosen B (suc j) x y o
+between_end : (B : Binarised) (j x y : ℕ) (o : Chain) → Between B j x y (steps B x) o → WithinSteps B (suc j) x y o
 unfolding within
 between_end B j x y Absent h = or_from (within B y j x) _ h.0 h.1
 between_end B j x y Empty h = h
-between_end B j x y (Steps k s) (inl h) = (within_grows B y j x h.0, h.1)
-between_end B j x y (Steps k s) (inr h) = let t = or_right (within B y j x) _ h.2 in (t, (j, h.0, h.1, t, h.3))
+between_end B j x y (Steps k s) (inl h) = (omega (arith, h.0), h.1)
+between_end B j x y (Steps k s) (inr h) = (omega (arith, h.0), (j, h.0, h.1, or_right (within B y j x) _ h.2, h.3))
 
 -- in a round after j, a chain of at most j steps is one that is shorter than the round's
 between_shorter : (B : Binarised) (j x y : ℕ) (os : List ChainStep) (o : Chain) → Between B j x y os o → shorter (suc j) o ≡ within B y j x
 between_shorter B j x y os Absent h = sym h.0
 between_shorter B j x y os Empty h = lt-ltb 0 (suc j) (omega arith) ∙ sym (subst (λ z. within B z j x ≡ true) h (within_self B x j))
 between_shorter B j x y os (Steps k s) (inl h) =
-    lt-ltb k (suc j) (elim (cases_lt h.1.0 j) [ inl l ↦ omega (arith, h.1.1) | inr g ↦ absurd (both_ways _ h.1.2 (within_on B y j h.1.0 x g h.0)) ]) ∙ sym h.0
+    let i = h.1.0 in
+    lt-ltb k (suc j) (omega (arith, h.0)) ∙ sym (within_on B y (suc i) j x (omega (arith, h.0, h.1.1)) h.1.3)
 between_shorter B j x y os (Steps k s) (inr h) = le-ltb k (suc j) (omega (arith, h.0)) ∙ sym h.1
 
 between_kept : (B : Binarised) (j x y : ℕ) (os es : List ChainStep) (k : ℕ) (s : UnitStep) → Between B j x y os (Steps k s) → Between B j x y (os ++ es) (Steps k s)
@@ -91,10 +91,10 @@ between_more B j x y os s true true Absent n h =
     )
 
 module _ (B : Binarised) (j : ℕ) where
-  pub chains_start : (c : Chains) → ChosenWithin B j c → TableBetween B j [] c
+  pub chains_start : (c : Chains) → AfterSteps B j c → TableBetween B j [] c
   chains_start c h x y a b = between_start B j x y (link c x y) (h x y a b)
 
-  pub chains_end : (c : Chains) → TableBetween B j (all_steps B) c → ChosenWithin B (suc j) c
+  pub chains_end : (c : Chains) → TableBetween B j (all_steps B) c → AfterSteps B (suc j) c
   chains_end c h x y a b = between_end B j x y (link c x y) (subst (λ l. Between B j x y l (link c x y)) (own_steps B x) (h x y a b))
 
   -- one step more of the list
@@ -175,17 +175,17 @@ module _ (B : Binarised) (bounded : Bounded B) (ends : EndsBelow B) where
     ]
   ]
 
-  chosen_from : (n x y : ℕ) (o : Chain) → within B y n x ≡ within B y B.symbols x → Chosen B n x y o → Chosen B B.symbols x y o
+  chosen_from : (n x y : ℕ) (o : Chain) → within B y n x ≡ within B y B.symbols x → WithinSteps B n x y o → Chosen B x y o
   chosen_from n x y Absent e h = sym e ∙ h
   chosen_from n x y Empty e h = h
-  chosen_from n x y (Steps k s) e h = (sym e ∙ h.0, h.1)
+  chosen_from n x y (Steps k s) e h = (sym e ∙ within_on B y (suc h.1.0) n x (omega (arith, h.0, h.1.1)) h.1.3, h.1)
 
   -- as many rounds as symbols but one, or more
-  pub chains_all : (n : ℕ) (c : Chains) → B.symbols ≤ suc n → ChosenWithin B n c → ChosenChains B c
+  pub chains_all : (n : ℕ) (c : Chains) → B.symbols ≤ suc n → AfterSteps B n c → ChosenChains B c
   chains_all n c l h x y a b = chosen_from n x y (link c x y) (steady y n x l) (h x y a b)
 
   -- a round that leaves the table as it was is the last
-  pub chains_rest : (j : ℕ) (c d : Chains) → B.symbols ≤ 128 → d.links ≡ c.links → ChosenWithin B j c → ChosenWithin B (suc j) d → ChosenChains B d
+  pub chains_rest : (j : ℕ) (c d : Chains) → B.symbols ≤ 128 → d.links ≡ c.links → AfterSteps B j c → AfterSteps B (suc j) d → ChosenChains B d
   chains_rest j c d l e h g = elim (cases_lt j B.symbols) [
     | inr big ↦ chains_all (suc j) d (omega arith) g
     | inl small ↦ λ x y a b. chosen_from j x y (link d x y) (elim (cases_lt y B.symbols) [
@@ -195,13 +195,14 @@ module _ (B : Binarised) (bounded : Bounded B) (ends : EndsBelow B) where
     ]) (before x y a b)
   ]
     where
-      before : ChosenWithin B j d
-      before x y a b = subst (λ t. Chosen B j x y (get_or (get_or t x []) y Absent)) (sym e) (h x y a b)
+      before : AfterSteps B j d
+      before x y a b = subst (λ t. WithinSteps B j x y (get_or (get_or t x []) y Absent)) (sym e) (h x y a b)
 
-      same : (x y : ℕ) (o : Chain) → Chosen B j x y o → Chosen B (suc j) x y o → within B y (suc j) x ≡ within B y j x
+      same : (x y : ℕ) (o : Chain) → WithinSteps B j x y o → WithinSteps B (suc j) x y o → within B y (suc j) x ≡ within B y j x
       same x y Absent p q = q ∙ sym p
       same x y Empty p q = subst (λ z. within B z (suc j) x ≡ within B z j x) p (within_self B x (suc j) ∙ sym (within_self B x j))
-      same x y (Steps k s) p q = q.0 ∙ sym p.0
+      same x y (Steps k s) p q =
+          within_on B y (suc p.1.0) (suc j) x (omega (arith, p.0, p.1.1)) p.1.3 ∙ sym (within_on B y (suc p.1.0) j x (omega (arith, p.0, p.1.1)) p.1.3)
 
 -- the turn of a round: the first steps of the list are done
 pub round_turn : (B : Binarised) (j : ℕ) (list : List UnitStep) (i : ℕ) (d : UnitStep) (c n : Chains) → B.symbols ≤ 128 → EndsBelow B → map step_of list ≡ all_steps B → i < length list

@@ -4,7 +4,7 @@ use Rattle.std.proofs.lemmas.Bool.{both_ways, cases_lt, lt-ltb, or_cases, and_pa
 use Rattle.grammar.specs.Binarise.{Within}
 use Rattle.grammar.specs.Lists.{Mem}
 use Rattle.grammar.specs.Binarised.{Right as RightSide, empty, unit, binary, terminal, Rule, Binarised, Bounded, Has, OwnRule, rules_of, over, fork}
-use Rattle.grammar.specs.Nullable.{ready, next_round, nullable_after, nullable, first_ready, rule_tree, nullable_tree_in, nullable_tree}
+use Rattle.grammar.specs.Nullable.{ready, nullable_after, nullable, first_ready, rule_tree, nullable_tree_in, nullable_tree}
 use Rattle.grammar.specs.Chains.{nothing, the_right, the_left, ChainStep, unit_step, steps, steps_by, nearer, within, first_step, chosen_chain_in, chosen_chain}
 use Rattle.grammar.proofs.Lists.{each_mem, first_from, mem_append}
 use Rattle.grammar.proofs.Rounds.{in_the_end}
@@ -61,7 +61,7 @@ module _ (B : Binarised) (bounded : Bounded B) where
   unfolding nullable
   held_brought n h k x t = at (get_or n.brought x None) refl (h x)
     where
-      at : (o : Option Brought) → get_or n.brought x None ≡ o → BroughtIn B (nullable B) x o → (b : Brought) × (get_or n.brought x None ≡ Some b) × (b.round < k) × Brings B x b
+      at : (o : Option Brought) → get_or n.brought x None ≡ o → BroughtIn B x o → (b : Brought) × (get_or n.brought x None ≡ Some b) × (b.round < k) × Brings B x b
       at None e p = absurd (both_ways _ p (held_last B bounded k x t))
       at (Some b) e p = (b, e, (elim (cases_lt b.round k) [ inl l ↦ l | inr g ↦ absurd (both_ways _ p.1.0 (held_on B bounded k b.round x g t)) ]), p.1)
 
@@ -110,7 +110,7 @@ module _ (B : Binarised) (bounded : Bounded B) where
     pub shortest_fewer : (c : Chains) → ChosenChains B c → (x k : ℕ) (s : UnitStep) → s.to < 128 → y < 128 → Shortest B x y k s → shorter k (link c s.to y) ≡ true
     shortest_fewer c all x k s a b h = at (link c s.to y) (all s.to y a b)
       where
-        at : (o : Chain) → Chosen B B.symbols s.to y o → shorter k o ≡ true
+        at : (o : Chain) → Chosen B s.to y o → shorter k o ≡ true
         at Absent p = absurd (both_ways _ p (reached_last h.0 s.to (shortest_next x k s h)))
         at Empty p = lt-ltb 0 k (omega (arith, h.1))
         at (Steps m t) p = lt-ltb m k (elim (cases_lt p.1.0 h.0) [
@@ -122,7 +122,7 @@ module _ (B : Binarised) (bounded : Bounded B) where
 pub link_self : (B : Binarised) (c : Chains) → ChosenChains B c → (x : ℕ) → x < 128 → link c x x ≡ Empty
 link_self B c h x a = at (link c x x) (h x x a a)
   where
-    at : (o : Chain) → Chosen B B.symbols x x o → o ≡ Empty
+    at : (o : Chain) → Chosen B x x o → o ≡ Empty
     at Absent p = absurd (both_ways _ p (within_self B x B.symbols))
     at Empty p = refl
     at (Steps k s) p = absurd (both_ways _ p.1.2 (within_self B x p.1.0))
@@ -131,7 +131,7 @@ link_self B c h x a = at (link c x x) (h x x a a)
 pub link_leads : (B : Binarised) (c : Chains) → ChosenChains B c → (x y : ℕ) → x < 128 → y < 128 → leads (link c x y) ≡ within B y B.symbols x
 link_leads B c h x y a b = at (link c x y) (h x y a b)
   where
-    at : (o : Chain) → Chosen B B.symbols x y o → leads o ≡ within B y B.symbols x
+    at : (o : Chain) → Chosen B x y o → leads o ≡ within B y B.symbols x
     at Absent p = sym p
     at Empty p = sym (subst (λ z. within B z B.symbols x ≡ true) p (within_self B x B.symbols))
     at (Steps k s) p = sym p.0

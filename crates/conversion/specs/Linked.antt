@@ -1,5 +1,5 @@
 -- What the arrays of unit steps and of chosen chains say.
-use Rattle.std.specs.Prelude.{◌≡◌, ℕ, suc, ◌<◌, Bool, true, false, List, [], map, take, nat_lt, slice_index_or}
+use Rattle.std.specs.Prelude.{◌≡◌, ℕ, suc, ◌<◌, ◌≤◌, Bool, true, false, cond, not, ◌&&◌, List, [], map, take, ◌==◌, nat_lt, slice_index_or}
 use Rattle.grammar.specs.Lists.{Mem, each}
 use Rattle.grammar.specs.Binarised.{Rule, Binarised}
 use Rattle.grammar.specs.Nullable.{nullable}
@@ -39,20 +39,30 @@ shorter n Absent = false
 shorter n Empty = nat_lt 0 n
 shorter n (Steps k s) = nat_lt k n
 
+-- the chain from x to y, with those of k steps that begin with s where there was none
+abbrev pub extended : ℕ → UnitStep → Chains → ℕ → ℕ → Chain
+extended k s c x y = cond (s.from == x && (not (leads (link c x y)) && shorter k (link c s.to y))) (Steps k s) (link c x y)
+
 -- k is the fewest steps from x to y, one and j more, and s the first step with a chain of at most j steps after it
 abbrev pub Shortest : Binarised → ℕ → ℕ → ℕ → UnitStep → Type 0
 Shortest B x y k s = (j : ℕ) × (k ≡ suc j) × (within B y j x ≡ false) × (within B y (suc j) x ≡ true) × (step_of s ≡ first_step B y j x)
 
--- whether a chain of at most n steps leads from x to y, and the chosen one
-abbrev pub Chosen : Binarised → ℕ → ℕ → ℕ → Chain → Type 0
-Chosen B n x y Absent = within B y n x ≡ false
-Chosen B n x y Empty = x ≡ y
-Chosen B n x y (Steps k s) = (within B y n x ≡ true) × Shortest B x y k s
+-- the chain from x to y of at most n steps
+abbrev pub WithinSteps : Binarised → ℕ → ℕ → ℕ → Chain → Type 0
+WithinSteps B n x y Absent = within B y n x ≡ false
+WithinSteps B n x y Empty = x ≡ y
+WithinSteps B n x y (Steps k s) = (k ≤ n) × Shortest B x y k s
 
--- the table of the chosen chains of at most n steps
-abbrev pub ChosenWithin : Binarised → ℕ → Chains → Type 0
-ChosenWithin B n c = (x y : ℕ) → x < 128 → y < 128 → Chosen B n x y (link c x y)
+-- the table of the chains of at most n steps
+abbrev pub AfterSteps : Binarised → ℕ → Chains → Type 0
+AfterSteps B n c = (x y : ℕ) → x < 128 → y < 128 → WithinSteps B n x y (link c x y)
+
+-- whether a chain leads from x to y, and the chosen one
+abbrev pub Chosen : Binarised → ℕ → ℕ → Chain → Type 0
+Chosen B x y Absent = within B y B.symbols x ≡ false
+Chosen B x y Empty = x ≡ y
+Chosen B x y (Steps k s) = (within B y B.symbols x ≡ true) × Shortest B x y k s
 
 -- the table of the chosen chains
 abbrev pub ChosenChains : Binarised → Chains → Type 0
-ChosenChains B c = ChosenWithin B B.symbols c
+ChosenChains B c = (x y : ℕ) → x < 128 → y < 128 → Chosen B x y (link c x y)

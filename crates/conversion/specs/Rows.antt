@@ -1,5 +1,5 @@
 -- The productions that rows stand for.
-use Rattle.std.specs.Prelude.{ℕ, List, map, take}
+use Rattle.std.specs.Prelude.{ℕ, List, take}
 use Rattle.grammar.specs.Productions.{Production as Written}
 use Rattle.conversion.specs.declared.production.Production.{Production}
 

@@ -1,5 +1,5 @@
 -- What the arrays of a conversion stand for.
-use Rattle.std.specs.Prelude.{ℕ, List, map, take}
+use Rattle.std.specs.Prelude.{ℕ, List, map}
 use Rattle.grammar.specs.Binarised.{Right as RightSide, empty, unit, binary, terminal, Rule, rule, Binarised}
 use Rattle.grammar.specs.Chains.{ChainStep, Dropped as Drop, nothing, the_right, the_left}
 use Rattle.grammar.specs.Strict.{StrictFormRule}

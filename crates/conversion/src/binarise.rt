@@ -1,11 +1,9 @@
 // Binarised rules from productions.
-ghost use Rattle.std.specs.Prelude.{◌≡◌, ◌<◌, ◌≤◌, [], ◌∷◌, map, length, take};
+ghost use Rattle.std.specs.Prelude.{◌≡◌, ◌<◌, ◌≤◌, [], map, length, take};
 ghost use Rattle.grammar.specs.Productions.{all_tails};
-ghost use Rattle.grammar.specs.Binarised.{rule};
-ghost use Rattle.grammar.specs.Binarise.{one_item, binarised_rules, binarised};
+ghost use Rattle.grammar.specs.Binarise.{binarised_rules, binarised};
 ghost use Rattle.conversion.specs.Rows.{production_of};
-ghost use Rattle.conversion.specs.Binarised.{rows_book, rules_held, Added, Room, Divided};
-ghost use Rattle.conversion.specs.Views.{right_side_of};
+ghost use Rattle.conversion.specs.Binarised.{rows_book, rules_held, Pushed, Tailed, Room, Divided, Single};
 
 use crate::binarised::BinarisedRules;
 use crate::production::Production;
@@ -45,7 +43,7 @@ impl BinarisedRules {
     // One rule more at the end.
     fn push(&mut self, left: u8, number: u8, right: Right)
         requires { self.old.count < 160 }
-        ensures { Added self.old self.new (rule left number (right_side_of right) ∷ []) 0 }
+        ensures { Pushed self.old self.new left number right }
     {
         let at = self.count;
         self.rules[at] = BinarisedRule {
@@ -59,7 +57,7 @@ impl BinarisedRules {
     // The next tail.
     fn tail(&mut self) -> u8
         requires { self.old.symbols < 128 }
-        ensures { (Added self.old self.new [] 1) × (result ≡ self.old.symbols) }
+        ensures { Tailed self.old self.new result }
     {
         let tail = self.symbols;
         self.symbols = tail + 1;
@@ -98,7 +96,7 @@ impl BinarisedRules {
 
 // The right side of one item: a head's symbol, or a pattern.
 fn single(item: u8) -> Right
-    ensures { right_side_of result ≡ one_item item }
+    ensures { Single item result }
 {
     if item < 32 {
         Right::Unit(item)

@@ -1,7 +1,7 @@
 // Chosen chains by rounds: round k finds the pairs of symbols whose shortest chain has k steps.
-ghost use Rattle.std.specs.Prelude.{◌≡◌, ℕ, suc, ◌<◌, ◌≤◌, false, not, ◌&&◌, [], map, replicate, if◌then◌else◌, ◌==◌, nat_eq, slice_index_or};
+ghost use Rattle.std.specs.Prelude.{◌≡◌, ℕ, suc, ◌<◌, ◌≤◌, false, ◌&&◌, [], map, replicate, if◌then◌else◌, ◌==◌, nat_eq, slice_index_or};
 ghost use Rattle.grammar.specs.Binarised.{Binarised, Bounded};
-ghost use Rattle.conversion.specs.Linked.{ChosenChains, ChosenWithin, EndsBelow, all_steps, leads, link, shorter};
+ghost use Rattle.conversion.specs.Linked.{AfterSteps, ChosenChains, EndsBelow, all_steps, extended, leads, link, shorter};
 ghost use Rattle.conversion.specs.Views.{step_of};
 
 use crate::chain::{Chain, Chains, UnitStep};
@@ -65,7 +65,7 @@ impl Chains {
 
     // The chains of so many steps that begin with this step. Whether there was a new one.
     fn extend(&mut self, step: UnitStep, steps: u8) -> bool
-        ensures more { (x y : ℕ) → x < 128 → y < 128 → link self.new x y ≡ (if nat_eq step.from x && (not (leads (link self.old x y)) && shorter steps (link self.old step.to y)) then Chain.Steps steps step else link self.old x y) }
+        ensures more { (x y : ℕ) → x < 128 → y < 128 → link self.new x y ≡ extended steps step self.old x y }
         ensures rest { result ≡ false → self.new.links ≡ self.old.links }
     {
         let mut grew = false;
@@ -80,7 +80,7 @@ impl Chains {
 
     // The chains of so many steps: the first step in the list that begins one begins the chosen one.
     fn round(&mut self, list: &[UnitStep], steps: u8) -> bool
-        ensures more { (B : Binarised) (j : ℕ) → steps ≡ suc j → B.symbols ≤ 128 → EndsBelow B → map step_of list.now ≡ all_steps B → ChosenWithin B j self.old → ChosenWithin B steps self.new }
+        ensures more { (B : Binarised) (j : ℕ) → steps ≡ suc j → B.symbols ≤ 128 → EndsBelow B → map step_of list.now ≡ all_steps B → AfterSteps B j self.old → AfterSteps B steps self.new }
         ensures rest { result ≡ false → self.new.links ≡ self.old.links }
     {
         let mut grew = false;

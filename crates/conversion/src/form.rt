@@ -1,13 +1,10 @@
 // The strict form of a list of productions.
-ghost use Rattle.std.specs.Prelude.{◌≡◌, ℕ, ◌≤◌, [], ◌∷◌, take, None, slice_index_or};
-ghost use Rattle.grammar.specs.Lists.{those, each, below};
+ghost use Rattle.std.specs.Prelude.{◌≡◌, ◌≤◌, [], ◌∷◌, take, None, slice_index_or};
 ghost use Rattle.grammar.specs.Productions.{Sound};
-ghost use Rattle.grammar.specs.Binarised.{Bounded};
-ghost use Rattle.grammar.specs.Strict.{strict_rules};
 ghost use Rattle.conversion.specs.Binarised.{rows_book};
 ghost use Rattle.conversion.specs.Forms.{FormOf};
-ghost use Rattle.conversion.specs.Views.{binarised_of, strict_rule_of};
-ghost use Rattle.conversion.specs.Found.{linked, Reached, proper_right, Holds, Appends, by_end};
+ghost use Rattle.conversion.specs.Views.{strict_rule_of};
+ghost use Rattle.conversion.specs.Found.{proper_right, Holds, Appends, by_end, by_ends, StrictIn};
 
 use crate::binarise::binarise;
 use crate::binarised::BinarisedRules;
@@ -80,7 +77,7 @@ impl StrictRules {
 
     // The strict rules of a symbol.
     fn of(&mut self, symbol: u8, rules: &[BinarisedRule], chains: &Chains)
-        ensures { Appends self.old self.new (each (by_end rules.now symbol) (those (linked chains.now symbol) (below 128))) }
+        ensures { Appends self.old self.new (by_ends rules.now chains.now symbol 128) }
     {
         for end in 0..128 {
             if chains.reaches(symbol, end) {
@@ -91,7 +88,7 @@ impl StrictRules {
 
     // The strict rules, by symbol, then by the end of the chain, then by number.
     fn all(rules: &[BinarisedRule], chains: &Chains) -> StrictRules
-        ensures { (S : ℕ) → S ≤ 128 → Bounded (binarised_of rules.now S) → Reached (binarised_of rules.now S) chains.now → Holds (strict_rules (binarised_of rules.now S)) result }
+        ensures { StrictIn rules.now chains.now result }
     {
         let mut out = StrictRules::none();
         for symbol in 0..128 {

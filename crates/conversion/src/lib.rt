@@ -1,5 +1,7 @@
 //! Puts a list of productions into strict Chomsky form, in fixed arrays: binarised rules, nullable symbols by rounds, unit
 //! steps and their chosen chains, strict rules.
+#![tactic(auto)]
+
 pub mod binarise;
 pub mod binarised;
 pub mod chain;

@@ -1,8 +1,8 @@
 // Nullable symbols by rounds: a round looks only at what was held before it.
 ghost use Rattle.std.specs.Prelude.{◌≡◌, ℕ, suc, ◌<◌, ◌≤◌, false, replicate, is_some, Some, None, slice_index_or, slice_set};
-ghost use Rattle.grammar.specs.Nullable.{ready as made_of, nullable_after};
-ghost use Rattle.grammar.specs.Binarised.{Binarised, Bounded};
-ghost use Rattle.conversion.specs.Held.{sooner, TableOf, Nullables};
+ghost use Rattle.grammar.specs.Nullable.{ready as made_of};
+ghost use Rattle.grammar.specs.Binarised.{Bounded};
+ghost use Rattle.conversion.specs.Held.{sooner, AfterRounds, Nullables};
 ghost use Rattle.conversion.specs.Views.{right_side_of, binarised_of};
 
 use crate::nullable::{Brought, Nullable};
@@ -67,7 +67,7 @@ impl Nullable {
 
     // One round: each symbol not yet held comes in by its first rule that is ready. Whether any came in.
     fn round(&mut self, rules: &[BinarisedRule], round: u8) -> bool
-        ensures more { ((S : ℕ) → let B : Binarised = binarised_of rules.now S in S ≤ 128 → Bounded B → TableOf B (nullable_after B round) self.old → TableOf B (nullable_after B (suc round)) self.new) }
+        ensures more { (S : ℕ) → S ≤ 128 → Bounded (binarised_of rules.now S) → AfterRounds (binarised_of rules.now S) round self.old → AfterRounds (binarised_of rules.now S) (suc round) self.new }
         ensures rest { result ≡ false → self.new.brought ≡ self.old.brought }
     {
         let mut grew = false;

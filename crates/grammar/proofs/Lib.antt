@@ -19,6 +19,7 @@ pub mod Theorems
 pub mod NullableRounds
 pub mod Spans
 pub mod StrictFound
+pub mod HeldNumbers
 pub mod Weighings
 pub mod Tails
 pub mod BinarisedRules

@@ -1,9 +1,9 @@
 -- A book with its last production struck: its strict rules are all strict rules of the book before, so there are no more of them.
-use Rattle.std.proofs.Common.{◌≡◌, ℕ, zero, suc, ◌<◌, ◌≤◌, Bool, true, false, ◌⊎◌, List, [], ◌∷◌, ◌++◌, map, length, sym, refl, ◌∙◌, subst, inl, inr, true≢false, arith}
+use Rattle.std.proofs.Common.{◌≡◌, ℕ, zero, suc, ◌≤◌, Bool, true, List, [], ◌∷◌, ◌++◌, map, length, sym, refl, ◌∙◌, subst, inl, inr, true≢false, arith}
 use Rattle.std.proofs.lemmas.Bool.{or_cases, and_parts, and_from}
 use Rattle.grammar.specs.Lists.{Mem, Sorted, each, below}
 use Rattle.grammar.specs.Productions.{Production, Book, offered, first_tail, Sound}
-use Rattle.grammar.specs.Binarised.{Right, empty, unit, binary, terminal, Rule, rule, Binarised, Has, OwnRule, rules_of, Bounded}
+use Rattle.grammar.specs.Binarised.{Right, empty, unit, binary, terminal, Rule, Binarised, OwnRule, rules_of, Bounded}
 use Rattle.grammar.specs.Binarise.{binarise_right, binarise_production, terminal_rule, binarised, Admitted}
 use Rattle.grammar.specs.Nullable.{ready, nullable_after, nullable}
 use Rattle.grammar.specs.Chains.{Dropped, nothing, the_right, the_left, ChainStep, Leads, UnitChain}

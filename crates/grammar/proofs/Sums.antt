@@ -1,5 +1,5 @@
 -- Sums over lists in a commutative semiring.
-use Rattle.std.proofs.Common.{◌≡◌, zero, Bool, true, false, cond, List, [], ◌∷◌, ◌++◌, map, sym, refl, ap, ◌∙◌, subst, ap₂, inl, inr}
+use Rattle.std.proofs.Common.{◌≡◌, Bool, true, false, cond, List, [], ◌∷◌, ◌++◌, map, sym, refl, ap, ◌∙◌, subst, ap₂, inl, inr}
 use Rattle.grammar.specs.Lists.{Mem, Distinct, those, each}
 use Rattle.grammar.specs.Semiring.{Ops, Semiring, sum}
 

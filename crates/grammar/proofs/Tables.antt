@@ -1,11 +1,11 @@
 -- What a node table holds after nodes were written into it.
-use Rattle.std.proofs.Common.{◌≡◌, ℕ, ◌+◌, ◌-◌, ◌<◌, ◌≤◌, min, cond, leb, ◌⊎◌, List, ◌++◌, length, get_or, take, drop, sym, refl, ap, ◌∙◌, inl, inr, arith, length-append, length-drop, length-take, get_or-drop, get_or-take}
+use Rattle.std.proofs.Common.{◌≡◌, ℕ, ◌+◌, ◌-◌, ◌<◌, ◌≤◌, min, cond, List, length, get_or, take, drop, ap, ◌∙◌, inl, inr, arith, length-append, length-drop, length-take, get_or-drop, get_or-take}
 use lib.ListN.{get_or-append}
 use Rattle.std.proofs.lemmas.List.{get_or-append_right}
 use Rattle.std.proofs.lemmas.Bool.{le-leb, lt-leb}
 use Rattle.grammar.specs.Nodes.{Node}
-use Rattle.grammar.specs.Answers.{limit, filled, Answer, number, refused, answer}
-use Rattle.grammar.specs.Promises.{TableAfter, Tables}
+use Rattle.grammar.specs.Answers.{limit, filled, number, refused}
+use Rattle.grammar.specs.Promises.{Tables}
 
 module _ (ks t : List Node) where
   abbrev most : ℕ

@@ -1,5 +1,5 @@
 -- The theorems: what the list of all plain trees holds, and what its sum is.
-use Rattle.std.proofs.Common.{◌≡◌, ℕ, zero, ◌<◌, Bool, true, false, cond, ◌↔◌, List, [], ◌∷◌, length, sym, refl, ap, ◌∙◌, inl, inr, true≢false, arith}
+use Rattle.std.proofs.Common.{◌≡◌, ℕ, ◌<◌, Bool, true, false, cond, ◌↔◌, List, [], ◌∷◌, length, sym, refl, ap, ◌∙◌, inl, inr, true≢false, arith}
 use Rattle.grammar.specs.Lists.{Mem, Distinct}
 use Rattle.grammar.specs.Binarised.{Binarised, Bounded, Numbered, Tree, Derives}
 use Rattle.grammar.specs.Nullable.{nullable, nullable_tree}

@@ -2,7 +2,7 @@
 use Rattle.std.proofs.Common.{◌≡◌, ℕ, suc, ◌+◌, ◌<◌, ◌≤◌, min, Bool, true, false, cond, ◌||◌, ltb, leb, ◌⊎◌, List, [], ◌∷◌, map, length, sym, refl, ap, ◌∙◌, subst, inl, inr, true≢false, arith}
 use mathlib.Core.Path.{fun_ext}
 use Rattle.grammar.specs.Lists.{cuts, Mem, Distinct}
-use Rattle.grammar.specs.Binarised.{rule, Binarised, Bounded, Tree, Derives}
+use Rattle.grammar.specs.Binarised.{Binarised, Bounded, Tree, Derives}
 use Rattle.grammar.specs.Nullable.{nullable_tree}
 use Rattle.grammar.specs.Semiring.{Ops, Semiring, sum, product}
 use Rattle.grammar.specs.Cells.{cell, total}

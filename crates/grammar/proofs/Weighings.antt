@@ -1,8 +1,7 @@
 -- Counting and least cost, held at a limit: the laws hold of the values up to the limit, and cells are kept from there to all numbers.
-use Rattle.std.proofs.Common.{◌≡◌, ℕ, zero, suc, ◌+◌, ◌*◌, ◌<◌, ◌≤◌, min, Bool, true, false, cond, List, [], ◌∷◌, length, sym, refl, ap, ◌∙◌, ap₂, inl, inr, mul_assoc, mul_comm, mul-zero, le-mul_of_pos_right, arith}
+use Rattle.std.proofs.Common.{◌≡◌, ℕ, zero, suc, ◌+◌, ◌*◌, ◌≤◌, min, Bool, true, false, cond, List, [], ◌∷◌, length, refl, ap, ◌∙◌, ap₂, arith}
 use native.Mathlib.Bridge.{le_prop}
 use mathlib.Core.HLevel.{Σ_prop_path}
-use Rattle.std.proofs.lemmas.Bool.{cases_lt, cases_eq}
 use Rattle.grammar.specs.Lists.{cuts}
 use Rattle.grammar.specs.Binarised.{Right, empty, unit, binary, terminal, Binarised, Tree, null, over, fork, leaf}
 use Rattle.grammar.specs.Nullable.{nullable, nullable_tree}
@@ -11,6 +10,7 @@ use Rattle.grammar.specs.Strict.{strict_rules_of}
 use Rattle.grammar.specs.Semiring.{Ops, Semiring, sum}
 use Rattle.grammar.specs.Cells.{tree_weight, drop_weight, chain_weight, over_events, cell_in, cell, total}
 use Rattle.grammar.specs.Weighings.{Keeps, counts, costs}
+use Rattle.grammar.proofs.HeldNumbers.{product_assoc, product_comm, product_sum}
 
 module _ {V U : Type 0} (M : Ops V) (N : Ops U) (f : V → U) (K : Keeps M N f) where
   pub sum_kept : {A : Type 0} (g : A → V) (h : A → U) (xs : List A) → ((a : A) → f (g a) ≡ h a) → f (sum M g xs) ≡ sum N h xs
@@ -72,20 +72,6 @@ module _ (C : ℕ) where
   upto : (a b : Upto C) → a.0 ≡ b.0 → a ≡ b
   upto a b e = Σ_prop_path (λ n. le_prop) e
 
-  -- a product with a factor held at the limit
-  cap_times : (x c : ℕ) → min (min x C * c) C ≡ min (x * c) C
-  cap_times x c = elim (cases_lt C x) [
-    | inr l ↦ ap (λ n. min (n * c) C) (let e : min x C ≡ x = omega arith in e)
-    | inl g ↦ elim (cases_eq c 0) [
-      | inl z ↦ rw (z, mul-zero (min x C), mul-zero x)
-      | inr n ↦ let m : min x C ≡ C = omega arith in
-          rw m (omega (arith, le-mul_of_pos_right C (let h : 0 < c = omega arith in h), le-mul_of_pos_right x (let h : 0 < c = omega arith in h)))
-    ]
-  ]
-
-  cap_times_right : (a x : ℕ) → min (a * min x C) C ≡ min (a * x) C
-  cap_times_right a x = ap (λ n. min n C) (mul_comm a (min x C)) ∙ cap_times x a ∙ ap (λ n. min n C) (mul_comm x a)
-
   unfoldable pub capped_counts : 1 ≤ C → Ops (Upto C)
   capped_counts h = record {
     zero = (0, omega arith);
@@ -101,11 +87,11 @@ module _ (C : ℕ) where
     plus_assoc = λ a b c. upto _ _ (omega arith);
     plus_comm = λ a b. upto _ _ (omega arith);
     plus_zero = λ a. upto _ _ (omega (arith, a.1));
-    times_assoc = λ a b c. upto _ _ (cap_times (a.0 * b.0) c.0 ∙ ap (λ n. min n C) (mul_assoc a.0 b.0 c.0) ∙ sym (cap_times_right a.0 (b.0 * c.0)));
-    times_comm = λ a b. upto _ _ (ap (λ n. min n C) (mul_comm a.0 b.0));
+    times_assoc = λ a b c. upto _ _ (product_assoc C a.0 b.0 c.0);
+    times_comm = λ a b. upto _ _ (product_comm C a.0 b.0);
     times_one = λ a. upto _ _ (omega (arith, a.1));
     times_zero = λ a. upto _ _ (omega arith);
-    distrib = λ a b c. upto _ _ (cap_times_right a.0 (b.0 + c.0) ∙ omega arith);
+    distrib = λ a b c. upto _ _ (product_sum C a.0 b.0 c.0);
   }
 
   -- the capped numbers, taken as numbers

@@ -1,5 +1,6 @@
 //! The definitions of the subject, and what is proved of them. No code here runs: each function stands for a theorem, which is its
 //! contract, so the crate passes only with its proof.
+#![tactic(auto)]
 
 ghost use Rattle.grammar.specs.Semiring.{Ops, Semiring};
 ghost use Rattle.grammar.specs.Examples.{Shown};

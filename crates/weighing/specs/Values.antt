@@ -1,16 +1,16 @@
 -- The values and operations of the three weighings.
-use Rattle.std.specs.Prelude.{ℕ, ◌+◌, ◌*◌, ◌≤◌, min, Bool, true, false, ◌&&◌, ◌||◌}
-use Rattle.std.proofs.Common.{arith}
+use Rattle.std.specs.Prelude.{ℕ, ◌+◌, ◌*◌, min, Bool, true, false, ◌&&◌, ◌||◌}
+use Rattle.std.proofs.Math.Nat.{le_trans, min-le_left, min-le_right}
 use Rattle.grammar.specs.Semiring.{Ops}
 use Rattle.weighing.specs.declared.capped.Capped.{Capped}
 
 -- a number, held at the largest of 32 bits
 abbrev pub held : ℕ → Capped
-held m = record { n = min m 4294967295; top = omega arith }
+held m = record { n = min m 4294967295; top = min-le_right m 4294967295 }
 
 -- the smaller of two numbers
 abbrev pub smaller : Capped → Capped → Capped
-smaller x y = record { n = min x.n y.n; top = omega (arith, x.top) }
+smaller x y = record { n = min x.n y.n; top = le_trans (min-le_left x.n y.n) x.top }
 
 -- whether there is a derivation: alternatives by or, parts by and; each cost weighs yes
 abbrev pub yes_no_ops : Ops Bool

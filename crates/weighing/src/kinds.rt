@@ -1,7 +1,7 @@
 // Three weighings: whether there is a derivation, how many there are, and what the cheapest costs.
 ghost use Rattle.weighing.specs.Values.{yes_no_ops, counts, least_costs};
 ghost use Rattle.weighing.specs.Laws.{yes_no_ops_laws, counts_laws, least_costs_laws};
-ghost use Rattle.std.proofs.Common.{rules};
+ghost use Rattle.std.proofs.Common.{lit≤};
 
 use crate::bank::Bank128;
 use crate::capped::Capped;
@@ -19,9 +19,9 @@ impl Weighing for YesNo {
 
     ghost semiring = { yes_no_ops_laws };
 
-    ghost small = { Prim.search rules };
+    ghost small = { lit≤ tt };
 
-    ghost wide = { Prim.search rules };
+    ghost wide = { lit≤ tt };
 
     fn zero() -> bool {
         false
@@ -60,9 +60,9 @@ impl Weighing for Count {
 
     ghost semiring = { counts_laws };
 
-    ghost small = { Prim.search rules };
+    ghost small = { lit≤ tt };
 
-    ghost wide = { Prim.search rules };
+    ghost wide = { lit≤ tt };
 
     fn zero() -> Capped {
         Capped::of(0)
@@ -103,9 +103,9 @@ impl Weighing for LeastCost {
 
     ghost semiring = { least_costs_laws };
 
-    ghost small = { Prim.search rules };
+    ghost small = { lit≤ tt };
 
-    ghost wide = { Prim.search rules };
+    ghost wide = { lit≤ tt };
 
     fn zero() -> Capped {
         Capped::of(4294967295)

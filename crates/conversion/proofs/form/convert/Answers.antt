@@ -1,7 +1,6 @@
-use Rattle.std.proofs.Common.{◌≡◌, ℕ, ◌≤◌, List, map, length, sym, ap, ◌∙◌, subst, arith}
+use Rattle.std.proofs.Common.{◌≡◌, ℕ, ◌≤◌, List, map, subst, arith}
 use Rattle.std.proofs.lemmas.List.{length-map}
 use Rattle.grammar.specs.Binarised.{Binarised, Bounded}
-use Rattle.grammar.specs.Strict.{strict_rules}
 use Rattle.conversion.specs.declared.right.BinarisedRule.{BinarisedRule}
 use Rattle.conversion.specs.declared.chain.UnitStep.{UnitStep}
 use Rattle.conversion.specs.Rows.{production_of}
@@ -9,7 +8,7 @@ use Rattle.conversion.specs.Binarised.{rows_book}
 use Rattle.conversion.specs.Views.{binarised_of, step_of}
 use Rattle.conversion.specs.Held.{Nullables}
 use Rattle.conversion.specs.Linked.{EndsBelow, ChosenChains, all_steps, steps_of}
-use Rattle.conversion.specs.Found.{Reached, Holds}
+use Rattle.conversion.specs.Found.{StrictIn}
 use Rattle.conversion.proofs.Joined.{joined}
 use Rattle.conversion.proofs.form.convert.Goals as goal
 
@@ -31,5 +30,5 @@ returns c =
       nullables = subst (λ (rs : List BinarisedRule). (T : ℕ) → T ≤ 128 → Bounded (binarised_of rs T) → Nullables (binarised_of rs T) n) c.list.ensures c.nullable-nullable.ensures;
       steps = subst (λ (rs : List BinarisedRule). (T : ℕ) → Nullables (binarised_of rs T) n → steps_of u ≡ all_steps (binarised_of rs T)) c.list-2.ensures c.unit_steps-steps.ensures;
       chains = subst (λ (l : List UnitStep). (B : Binarised) → B.symbols ≤ 128 → Bounded B → EndsBelow B → map step_of l ≡ all_steps B → ChosenChains B t) c.list-3.ensures c.chains-chains.ensures;
-      strict = subst (λ (rs : List BinarisedRule). (T : ℕ) → T ≤ 128 → Bounded (binarised_of rs T) → Reached (binarised_of rs T) t → Holds (strict_rules (binarised_of rs T)) s) c.list-4.ensures c.all-strict.ensures;
+      strict = subst (λ (rs : List BinarisedRule). StrictIn rs t s) c.list-4.ensures c.all-strict.ensures;
     }

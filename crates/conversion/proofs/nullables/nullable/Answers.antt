@@ -1,6 +1,7 @@
 use Rattle.std.proofs.Common.{sym, subst, add-one, arith}
 use Rattle.conversion.specs.Views.{binarised_of}
-use Rattle.conversion.proofs.Bringing.{AfterRounds, rounds_start, rounds_all, rounds_rest}
+use Rattle.conversion.specs.Held.{AfterRounds}
+use Rattle.conversion.proofs.Bringing.{rounds_start, rounds_all, rounds_rest}
 use Rattle.conversion.proofs.nullables.nullable.Goals as goal
 
 pub loop-round-init : goal.loop-round-init

@@ -1,7 +1,7 @@
 use Rattle.std.proofs.Common.{ℕ, ◌≤◌}
 use Rattle.grammar.specs.Binarised.{Bounded}
 use Rattle.conversion.specs.Views.{binarised_of}
-use Rattle.conversion.proofs.Bringing.{AfterRounds}
+use Rattle.conversion.specs.Held.{AfterRounds}
 use Rattle.conversion.proofs.nullables.nullable.Given as goal
 
 abbrev pub invariant-loop-round : goal.invariant-loop-round

@@ -14,7 +14,7 @@ loop-k-preserved c =
     let is = c.push.new.self in
     let tailed = c.tail-tail.ensures in
     let pushed = c.push.ensures in (
-      pairs_more was mid is c.loop-k.left c.args.number c.tail-tail.result c.loop-k.k _ _ c.args.items.now (omega arith) tailed.0 tailed.1 pushed (omega arith) (omega arith) ∙ c.loop-k.invariant.0,
+      pairs_more was mid is c.loop-k.left c.args.number c.tail-tail.result c.loop-k.k _ _ c.args.items.now (omega arith) tailed pushed (omega arith) (omega arith) ∙ c.loop-k.invariant.0,
       omega (arith, c.loop-k.invariant.1, tailed.0.1, pushed.1),
       omega (arith, c.loop-k.invariant.2, added_count was mid _ 1 tailed.0, added_count mid is _ 0 pushed),
     )

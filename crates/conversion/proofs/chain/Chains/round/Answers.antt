@@ -1,8 +1,7 @@
 use Rattle.std.proofs.Common.{map, get_or, sym, ap, ◌∙◌, subst, true≢false}
 use Rattle.std.proofs.lemmas.List.{take_all}
 use Rattle.conversion.specs.Views.{step_of}
-use Rattle.conversion.specs.Linked.{ChosenWithin}
-use Rattle.conversion.proofs.Linking.{extended}
+use Rattle.conversion.specs.Linked.{AfterSteps, extended}
 use Rattle.conversion.specs.declared.chain.Dropped.TheVariants.{Nothing}
 use Rattle.conversion.specs.declared.chain.UnitStep.{UnitStep}
 use Rattle.conversion.proofs.Reaching.{TableBetween, chains_end, round_turn}
@@ -11,11 +10,10 @@ use Rattle.conversion.proofs.chain.Chains.round.Goals.{then-extend, else-extend}
 
 pub loop-step-preserved : goal.loop-step-preserved
 loop-step-preserved c =
-    let d : UnitStep = record { from = 0; number = 0; dropped = Nothing; to = 0 } in
-    let s : UnitStep = get_or c.args.list.now c.loop-step.step-index d in (
+    let d : UnitStep = record { from = 0; number = 0; dropped = Nothing; to = 0 } in (
       (λ B j e l ends is h. round_turn B j c.args.list.now c.loop-step.step-index d c.loop-step.self c.extend.new.self l ends is c.loop-step-test.true
           (c.loop-step.invariant.0 B j e l ends is h)
-          (λ x y a b. ◌∙◌ {b = extended c.args.steps s c.loop-step.self x y} (c.extend.ensures.more x y a b) (ap (λ k. extended k s c.loop-step.self x y) e))),
+          (λ x y a b. c.extend.ensures.more x y a b ∙ ap (λ k. extended k (get_or c.args.list.now c.loop-step.step-index d) c.loop-step.self x y) e)),
       λ e. elim c.if-extend.branch [
         | then-extend w ↦ absurd (true≢false (sym w.grew-is ∙ e))
         | else-extend w ↦ c.extend.ensures.rest w.if-extend.false ∙ c.loop-step.invariant.1 (sym w.grew-is ∙ e)
@@ -26,7 +24,7 @@ pub returns : goal.returns
 returns c =
     let list = c.args.list.now in
     record {
-      more = λ B j e l ends is h. subst (λ k. ChosenWithin B k c.loop-step.self) (sym e) (chains_end B j c.loop-step.self
+      more = λ B j e l ends is h. subst (λ k. AfterSteps B k c.loop-step.self) (sym e) (chains_end B j c.loop-step.self
           (subst (λ ss. TableBetween B j ss c.loop-step.self) (ap (map step_of) (take_all c.loop-step.step-index list c.loop-step-test.false) ∙ is)
           (c.loop-step.invariant.0 B j e l ends is h)));
       rest = c.loop-step.invariant.1;

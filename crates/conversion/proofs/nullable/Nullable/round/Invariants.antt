@@ -1,7 +1,8 @@
 use Rattle.std.proofs.Common.{◌≡◌, ℕ, ◌≤◌, false, map, take}
 use Rattle.grammar.specs.Binarised.{Bounded}
 use Rattle.conversion.specs.Views.{rule_of, binarised_of}
-use Rattle.conversion.proofs.Bringing.{AfterRounds, TableAmid}
+use Rattle.conversion.specs.Held.{AfterRounds}
+use Rattle.conversion.proofs.Bringing.{TableAmid}
 use Rattle.conversion.proofs.nullable.Nullable.round.Given as goal
 
 abbrev pub invariant-loop-rule : goal.invariant-loop-rule

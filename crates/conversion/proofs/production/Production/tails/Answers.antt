@@ -1,4 +1,4 @@
-use Rattle.std.proofs.Common.{◌≡◌, ◌-◌, length, take, arith}
+use Rattle.std.proofs.Common.{take, arith}
 use Rattle.std.proofs.lemmas.List.{length-take-le}
 use Rattle.conversion.proofs.Tails.{tails_length}
 use Rattle.conversion.proofs.production.Production.tails.Goals as goal

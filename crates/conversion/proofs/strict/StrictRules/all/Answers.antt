@@ -1,7 +1,7 @@
 use Rattle.std.proofs.Common.{◌≡◌, List, sym, ap, ◌∙◌, subst, arith}
 use Rattle.grammar.specs.Strict.{StrictFormRule}
 use Rattle.conversion.specs.Found.{Holds}
-use Rattle.conversion.proofs.Found.{by_ends, by_symbols, by_symbols_none, by_symbols_more, strict_rules_found}
+use Rattle.conversion.proofs.Found.{by_symbols, by_symbols_none, by_symbols_more, strict_rules_found}
 use Rattle.conversion.proofs.strict.StrictRules.all.Goals as goal
 
 pub loop-symbol-init : goal.loop-symbol-init
@@ -9,7 +9,6 @@ loop-symbol-init c =
     subst (λ (l : List StrictFormRule). Holds l c.none-out.result) (sym (by_symbols_none c.args.rules.now c.args.chains.now 128)) c.none-out.ensures
 
 pub loop-symbol-preserved : goal.loop-symbol-preserved
-unfolding by_ends
 loop-symbol-preserved c =
     subst (λ (l : List StrictFormRule). Holds l c.of.new.self) (sym (by_symbols_more c.args.rules.now c.args.chains.now 128 c.loop-symbol.symbol))
     (c.of.ensures (by_symbols c.args.rules.now c.args.chains.now 128 c.loop-symbol.symbol) c.loop-symbol.invariant)

@@ -1,7 +1,7 @@
 use Rattle.std.proofs.Common.{◌≡◌, cond, [], sym, ap, ◌∙◌, subst, arith}
 use Rattle.conversion.specs.declared.strict.StrictRules.{StrictRules}
-use Rattle.conversion.specs.Found.{Appends, by_end}
-use Rattle.conversion.proofs.Found.{appends_none, appends_same, appends_more, appends_nothing, by_ends, by_ends_none, by_ends_more}
+use Rattle.conversion.specs.Found.{Appends, by_end, by_ends}
+use Rattle.conversion.proofs.Found.{appends_none, appends_same, appends_more, appends_nothing, by_ends_none, by_ends_more}
 use Rattle.conversion.proofs.strict.StrictRules.of.Goals as goal
 use Rattle.conversion.proofs.strict.StrictRules.of.Goals.{then-reaches, else-reaches}
 
@@ -29,7 +29,6 @@ loop-end-preserved c =
     ]))
 
 pub returns : goal.returns
-unfolding by_ends
 returns c =
     let all : c.loop-end.end ≡ 128 = omega arith in
     appends_same c.args.self.now c.loop-end.self _ _ (ap (by_ends c.args.rules.now c.args.chains.now c.args.symbol) all) c.loop-end.invariant

@@ -1,5 +1,4 @@
-use Rattle.conversion.specs.Found.{Appends}
-use Rattle.conversion.proofs.Found.{by_ends}
+use Rattle.conversion.specs.Found.{Appends, by_ends}
 use Rattle.conversion.proofs.strict.StrictRules.of.Given as goal
 
 abbrev pub invariant-loop-end : goal.invariant-loop-end

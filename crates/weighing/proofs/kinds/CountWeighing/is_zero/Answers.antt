@@ -1,5 +1,5 @@
 use Rattle.std.proofs.Common.{arith}
-use Rattle.weighing.specs.Laws.{held_only, held_always}
+use Rattle.weighing.proofs.Zeros.{held_only, held_always}
 use Rattle.weighing.proofs.kinds.CountWeighing.is_zero.Goals as goal
 
 pub returns : goal.returns
