@@ -59,9 +59,9 @@ coded_step : Coded ChainStep
 coded_step = coded_via (coded_list coded_ℕ) step_numbers step_told
 
 module _ (B : Binarised) where
-  brought_prop : (h : ℕ → Bool) (x : ℕ) (o : Option Brought) (a b : BroughtIn B h x o) → a ≡ b
-  brought_prop h x None a b = Bool-set _ _ a b
-  brought_prop h x (Some y) a b = λ i. (
+  brought_prop : (x : ℕ) (o : Option Brought) (a b : BroughtIn B x o) → a ≡ b
+  brought_prop x None a b = Bool-set _ _ a b
+  brought_prop x (Some y) a b = λ i. (
     Bool-set _ _ a.0 b.0 i,
     (Bool-set _ _ a.1.0 b.1.0 i, Bool-set _ _ a.1.1 b.1.1 i, Coded-set coded_own _ _ a.1.2 b.1.2 i),
   )
@@ -77,16 +77,16 @@ module _ (B : Binarised) where
         is_prop→PathP (λ i. step_of s ≡ first_step B y (p i) x) (λ i. Coded-set coded_step _ _) a.4 b.4 i,
       )
 
-  chosen_prop : (n x y : ℕ) (o : Chain) (a b : Chosen B n x y o) → a ≡ b
-  chosen_prop n x y Absent a b = Bool-set _ _ a b
-  chosen_prop n x y Empty a b = ℕ_set x y a b
-  chosen_prop n x y (Steps k s) a b = λ i. (Bool-set _ _ a.0 b.0 i, shortest_prop x y k s a.1 b.1 i)
+  chosen_prop : (x y : ℕ) (o : Chain) (a b : Chosen B x y o) → a ≡ b
+  chosen_prop x y Absent a b = Bool-set _ _ a b
+  chosen_prop x y Empty a b = ℕ_set x y a b
+  chosen_prop x y (Steps k s) a b = λ i. (Bool-set _ _ a.0 b.0 i, shortest_prop x y k s a.1 b.1 i)
 
 form_prop : (W : Book) (f : StrictForm) (a b : FormOf W f) → a ≡ b
 form_prop W f a b = λ i. record {
   symbols = ℕ_set _ _ a.symbols b.symbols i;
-  nullable = λ x. brought_prop (binarised W) (nullable (binarised W)) x _ (a.nullable x) (b.nullable x) i;
-  chains = λ x y h k. chosen_prop (binarised W) (binarised W).symbols x y _ (a.chains x y h k) (b.chains x y h k) i;
+  nullable = λ x. brought_prop (binarised W) x _ (a.nullable x) (b.nullable x) i;
+  chains = λ x y h k. chosen_prop (binarised W) x y _ (a.chains x y h k) (b.chains x y h k) i;
   strict = (Coded-set (coded_list coded_rule) _ _ a.strict.0 b.strict.0 i, Bool-set _ _ a.strict.1 b.strict.1 i);
 }
 

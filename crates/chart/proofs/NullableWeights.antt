@@ -72,10 +72,10 @@ module _ {V : Type 0} (M : Ops V) (L : Semiring M) (W : Book) (S : Sound W) wher
       off : (m : ℕ) → m ≤ b.round → nullable_after (binarised W) m x ≡ false
       off m g = elim (cases_Bool (nullable_after (binarised W) m x)) [ inl t ↦ absurd (both_ways _ h.0 (held_on (binarised W) (binarised_bounded W S) m b.round x g t)) | inr f ↦ f ]
 
-  round_none : (k s : ℕ) (f : ℕ → V) → BroughtIn (binarised W) (nullable (binarised W)) s None → AmidRound M W k s f → AmidRound M W k (s + 1) f
+  round_none : (k s : ℕ) (f : ℕ → V) → BroughtIn (binarised W) s None → AmidRound M W k s f → AmidRound M W k (s + 1) f
   round_none k s f never = round_past k s f (none_brings (suc k) s never ∙ sym (none_brings k s never))
 
-  round_other : (k s : ℕ) (f : ℕ → V) (b : Brought) → BroughtIn (binarised W) (nullable (binarised W)) s (Some b) → (b.round ≡ k → ⊥) → AmidRound M W k s f → AmidRound M W k (s + 1) f
+  round_other : (k s : ℕ) (f : ℕ → V) (b : Brought) → BroughtIn (binarised W) s (Some b) → (b.round ≡ k → ⊥) → AmidRound M W k s f → AmidRound M W k (s + 1) f
   round_other k s f b h ne = round_past k s f (other_brings k s b h.1 ne)
 
   -- amid a round the symbols of the rounds before weigh what their chosen trees weigh
@@ -97,7 +97,7 @@ module _ {V : Type 0} (M : Ops V) (L : Semiring M) (W : Book) (S : Sound W) wher
   rule_weighed k x n f h (terminal p) t = absurd (false≢true t)
 
   -- the round brings a symbol in: it weighs what the rule that brought it in weighs over the symbols of the rounds before
-  round_more : (k s size : ℕ) (was is : ℕ → V) (b : Brought) (v : V) → BroughtIn (binarised W) (nullable (binarised W)) s (Some b) → b.round ≡ k → 128 ≤ size
+  round_more : (k s size : ℕ) (was is : ℕ → V) (b : Brought) (v : V) → BroughtIn (binarised W) s (Some b) → b.round ≡ k → 128 ≤ size
       → v ≡ M.times (binarised_weight W M s b.number) (right_weight M was (right_side_of b.right))
       → ((j : ℕ) → j < size → is j ≡ cond (eqb j s) v (was j)) → AmidRound M W k s was → AmidRound M W k (s + 1) is
   round_more k s size was is b v h e wide weighs put amid x l = elim (cases_eq x s) [
@@ -123,8 +123,8 @@ module _ {V : Type 0} (M : Ops V) (L : Semiring M) (W : Book) (S : Sound W) wher
 
 -- a turn of round k, at the symbol s, by what the table says of it
 module _ {V T : Type 0} (M : Ops V) (L : Semiring M) (W : Book) (S : Sound W) (n : Nullable) (N : Nullables (binarised W) n) (item : T → ℕ → V) (k s : ℕ) (was is : T) (amid : AmidRound M W k s (item was)) where
-  told : (o : Option Brought) → o ≡ get_or n.brought s None → BroughtIn (binarised W) (nullable (binarised W)) s o
-  told o e = subst (BroughtIn (binarised W) (nullable (binarised W)) s) (sym e) (N s)
+  told : (o : Option Brought) → o ≡ get_or n.brought s None → BroughtIn (binarised W) s o
+  told o e = subst (BroughtIn (binarised W) s) (sym e) (N s)
 
   pub turn_none : None ≡ get_or n.brought s None → is ≡ was → AmidRound M W k (s + 1) (item is)
   turn_none e same = subst (λ b. AmidRound M W k (s + 1) (item b)) (sym same) (round_none M L W S k s (item was) (told None e) amid)

@@ -39,14 +39,14 @@ abbrev pub OnTheWay : {V : Type 0} → Ops V → Book → ℕ → ℕ → ℕ �
 OnTheWay M W x y z p = Mem y (reached (binarised W) z) × (M.times p (chosen_weight M W z y) ≡ chosen_weight M W x y)
 
 -- the table has the chosen chain to a symbol that is reached
-pub chosen_there : (W : Book) → Sound W → (c : Chains) → ChosenChains (binarised W) c → (x y : ℕ) → Mem y (reached (binarised W) x) → (o : Chain) → o ≡ link c x y → Chosen (binarised W) (binarised W).symbols x y o
+pub chosen_there : (W : Book) → Sound W → (c : Chains) → ChosenChains (binarised W) c → (x y : ℕ) → Mem y (reached (binarised W) x) → (o : Chain) → o ≡ link c x y → Chosen (binarised W) x y o
 chosen_there W S c all x y m o e =
     let r = reached_mem (binarised W) (binarised_bounded W S) x y m in
     let l = within_small (binarised W) (binarised_bounded W S) y r.0 (binarised W).symbols x r.1 in
-    subst (Chosen (binarised W) (binarised W).symbols x y) (sym e) (all x y (omega (arith, binarised_size W S)) (omega (arith, r.0, binarised_size W S)))
+    subst (Chosen (binarised W) x y) (sym e) (all x y (omega (arith, binarised_size W S)) (omega (arith, r.0, binarised_size W S)))
 
 -- the chosen chain from z to y is its first step and the chosen chain from where that ends
-module _ (W : Book) (S : Sound W) (y z k : ℕ) (s : UnitStep) (h : Chosen (binarised W) (binarised W).symbols z y (Steps k s)) (m : Mem y (reached (binarised W) z)) where
+module _ (W : Book) (S : Sound W) (y z k : ℕ) (s : UnitStep) (h : Chosen (binarised W) z y (Steps k s)) (m : Mem y (reached (binarised W) z)) where
   chain_split : chosen_chain (binarised W) z y ≡ step_of s ∷ chosen_chain (binarised W) s.to y
   chain_split = shortest_chain (binarised W) (binarised_bounded W S) y (reached_mem (binarised W) (binarised_bounded W S) z y m).0 z k s h.1
 
@@ -65,7 +65,7 @@ module _ (W : Book) (S : Sound W) (y z k : ℕ) (s : UnitStep) (h : Chosen (bina
 
 module _ {V : Type 0} (M : Ops V) (L : Semiring M) (W : Book) (S : Sound W) where
   -- where the way ends, its weight is that of the chain
-  pub way_end : (x y z : ℕ) (p : V) (o : Chain) → ((k : ℕ) (s : UnitStep) → o ≡ Steps k s → ⊥) → Chosen (binarised W) (binarised W).symbols z y o → OnTheWay M W x y z p → p ≡ chosen_weight M W x y
+  pub way_end : (x y z : ℕ) (p : V) (o : Chain) → ((k : ℕ) (s : UnitStep) → o ≡ Steps k s → ⊥) → Chosen (binarised W) z y o → OnTheWay M W x y z p → p ≡ chosen_weight M W x y
   way_end x y z p Absent no_step h w = absurd (both_ways _ h (reached_mem (binarised W) (binarised_bounded W S) z y w.0).1)
   way_end x y z p Empty no_step h w =
       sym (times_one_right M L p) ∙ ap (λ c. M.times p (chain_weight (binarised W) M (binarised_weight W M) c)) (sym (chain_self (binarised W) z) ∙ ap (chosen_chain (binarised W) z) h) ∙ w.1
@@ -85,7 +85,7 @@ module _ {V : Type 0} (M : Ops V) (L : Semiring M) (W : Book) (S : Sound W) wher
     dropped_same x n (the_left z) y h = blank_of z h.1
 
     -- one step more on the way
-    pub way_more : (y z k : ℕ) (s : UnitStep) → Chosen (binarised W) (binarised W).symbols z y (Steps k s)
+    pub way_more : (y z k : ℕ) (s : UnitStep) → Chosen (binarised W) z y (Steps k s)
         → (v : V) → v ≡ M.times (binarised_weight W M s.from s.number) (dropped_weight M f (drop_of s.dropped))
         → (x : ℕ) (p q : V) → q ≡ M.times p v → OnTheWay M W x y z p → OnTheWay M W x y s.to q
     way_more y z k s h v weighs x p q so (m, w) =
