@@ -3,6 +3,8 @@
 // letters. Prints the numbers of symbols, of strict rules and of events, and for each weighing the seconds spent in the feeds, by
 // the clock, and the total.
 // With no argument: twelve events over each stored book, and the totals alone, which are the same in every run.
+#![tactic(auto)]
+
 mod case;
 mod feeds;
 mod measure;

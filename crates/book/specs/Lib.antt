@@ -7,3 +7,4 @@ pub mod Offers
 pub mod Loads
 pub mod Strikes
 pub mod Runs
+pub mod Alphabets

@@ -1,7 +1,7 @@
 // Alphabets: a kind of event, a kind of pattern, and which pattern fits which event.
 ghost use Rattle.std.specs.Prelude.{◌≡◌, Bool, T, nat_eq};
 ghost use Rattle.book.specs.Fits.{CardFits, card_test};
-ghost use Rattle.std.proofs.Common.{rules};
+ghost use Rattle.book.specs.Alphabets.{bytes_exact, cards_exact};
 
 use crate::kinds::{CardEvent, CardPattern};
 
@@ -36,7 +36,7 @@ impl Alphabet for Bytes {
 
     ghost test = { nat_eq };
 
-    ghost exact = { Prim.search rules };
+    ghost exact = { bytes_exact };
 
     fn fit(pattern: u8, event: u8) -> bool {
         pattern == event
@@ -55,7 +55,7 @@ impl Alphabet for Cards {
 
     ghost test = { card_test };
 
-    ghost exact = { Prim.search rules };
+    ghost exact = { cards_exact };
 
     fn fit(pattern: CardPattern, event: CardEvent) -> bool {
         pattern.kind == event.kind

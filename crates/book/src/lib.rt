@@ -1,4 +1,6 @@
 //! Rule books over any alphabet: a table of patterns, an open book that takes rules, a closed book that charts are cut from.
+#![tactic(auto)]
+
 pub mod alphabet;
 pub mod books;
 pub mod fault;

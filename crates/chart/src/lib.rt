@@ -1,4 +1,6 @@
 //! Charts over the caller's table of weights, the same for every alphabet and every weighing.
+#![tactic(auto)]
+
 mod active;
 mod cells;
 pub mod chart;

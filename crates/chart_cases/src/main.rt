@@ -9,6 +9,8 @@
 // - end.
 // The file cards.txt has one book over card events: lines pattern KIND LOWEST HIGHEST, rules in rule text, and lines
 // totals KIND:ARGUMENT .., which print as above.
+#![tactic(auto)]
+
 mod cards;
 mod case;
 mod cells;

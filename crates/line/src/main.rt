@@ -1,4 +1,6 @@
 // Reads standard input, at most one byte more than the program takes, and prints what the line program makes of it.
+#![tactic(auto)]
+
 use programs::line::{LIMIT, line};
 use std::io::Read;
 

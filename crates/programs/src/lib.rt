@@ -1,4 +1,6 @@
 //! The programs as functions from their input to their output.
+#![tactic(auto)]
+
 mod divide;
 pub mod line;
 pub mod rule_text;

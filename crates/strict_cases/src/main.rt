@@ -9,6 +9,8 @@
 // - round K X ..: the symbols that round K found nullable; a round that found none is left out.
 // - strict X Y N pair Z W, strict X Y N pattern P: the strict rules in order, by symbol, end of the chain, number and right side.
 // - end.
+#![tactic(auto)]
+
 mod case;
 mod form;
 mod outcome;

@@ -7,6 +7,8 @@
 //   nullable_start or nullable_parts, whether the start head or only others derive nothing; units, unit_loop or unit_ring, whether
 //   there are unit rules, heads that step to themselves, or heads that step to each other; and the highest count of a trace:
 //   nothing_read, one_way_each, ambiguous or count_at_cap. near_limit: the longest trace that a table has room for.
+#![tactic(auto)]
+
 mod order;
 
 ghost use Rattle.std.specs.Prelude.{◌≤◌, length, IfOk};

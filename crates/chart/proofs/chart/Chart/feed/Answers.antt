@@ -14,11 +14,10 @@ returns-clause-chart g c =
     let means = c.symbols-symbols.ensures.means in
     let held = c.held-n.ensures in
     let long : column_place S (was.held.events + 2) ≤ length was.weights.now =
-    omega (arith, c.column_place.ensures ∙ ap₂ (λ a b. column_place a (b + 2)) means held, c.if-self-column_place.false) in
-    (
-        no_refusal S (length was.weights.now) was.held.events (omega (arith, c.if-n-ge-EVENTS.false, held)) long,
-        omega arith,
-        omega (arith, held),
-        (λ es h. record { many = length_push es c.args.event ∙ ap (λ k. k + 1) (h.many ∙ sym held); chart = c.fill.ensures.chart es (ap (λ k. k + 1) (h.many ∙ sym held)) h.chart }),
-        outside_as g.W.Weighing.ops.zero s S n was.held.events was.weights.now c.fill.new.weights means held c.fill.ensures.outside,
+    omega (arith, c.column_place.ensures ∙ ap₂ (λ a b. column_place a (b + 2)) means held, c.if-self-column_place.false) in (
+      no_refusal S (length was.weights.now) was.held.events (omega (arith, c.if-n-ge-EVENTS.false, held)) long,
+      omega arith,
+      omega (arith, held),
+      (λ es h. record { many = length_push es c.args.event ∙ ap (λ k. k + 1) (h.many ∙ sym held); chart = c.fill.ensures.chart es (ap (λ k. k + 1) (h.many ∙ sym held)) h.chart }),
+      outside_as g.W.Weighing.ops.zero s S n was.held.events was.weights.now c.fill.new.weights means held c.fill.ensures.outside,
     )
