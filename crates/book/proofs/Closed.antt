@@ -1,5 +1,5 @@
 -- What a closed book has.
-use Rattle.std.proofs.Common.{◌≡◌, ℕ, ◌≤◌, List, [], ◌∷◌, map, get_or, take, refl, ap, ◌∙◌, arith}
+use Rattle.std.proofs.Common.{◌≡◌, ℕ, List, [], ◌∷◌, map, get_or, take, refl, ap, ◌∙◌, arith}
 use mathlib.Core.Logic.{∥∥₁_elim}
 use native.Mathlib.Nat.{ℕ_set}
 use base.Stored.{Coded, coded_ℕ, coded_list, coded_via, Coded-set}

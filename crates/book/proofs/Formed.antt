@@ -1,5 +1,5 @@
 -- There is at most one proof that a form is the strict form of a book, so that a form of which only the existence of one is kept can be used.
-use Rattle.std.proofs.Common.{◌≡◌, ℕ, suc, Bool, true, false, List, [], ◌∷◌, Some, None, Option, refl, ap, arith}
+use Rattle.std.proofs.Common.{◌≡◌, ℕ, suc, true, false, List, [], ◌∷◌, Some, None, Option, refl, ap, arith}
 use mathlib.Core.Logic.{∥∥₁_elim}
 use mathlib.Core.HLevel.{is_prop→PathP}
 use mathlib.Core.Bool.{Bool-set}
@@ -8,7 +8,6 @@ use base.Stored.{Coded, coded_ℕ, coded_list, coded_via, coded×, Coded-set}
 use Rattle.grammar.specs.Productions.{Book}
 use Rattle.grammar.specs.Binarised.{Binarised, OwnRule}
 use Rattle.grammar.specs.Binarise.{binarised}
-use Rattle.grammar.specs.Nullable.{nullable}
 use Rattle.grammar.specs.Chains.{Dropped, nothing, the_right, the_left, ChainStep, within, first_step}
 use Rattle.conversion.specs.declared.form.StrictForm.{StrictForm}
 use Rattle.conversion.specs.declared.nullable.Brought.{Brought}

@@ -1,14 +1,14 @@
 -- A book that holds no rule has at most one strict rule for each symbol.
-use Rattle.std.proofs.Common.{◌≡◌, ℕ, zero, suc, ◌+◌, ◌*◌, ◌<◌, ◌≤◌, Bool, true, false, cond, eqb, List, [], ◌∷◌, ◌++◌, map, length, sym, refl, ap, ◌∙◌, subst, one-mul, mul-suc, arith, length-append}
+use Rattle.std.proofs.Common.{◌≡◌, ℕ, zero, suc, ◌+◌, ◌*◌, ◌<◌, ◌≤◌, Bool, true, false, cond, eqb, List, [], ◌∷◌, map, length, sym, refl, ap, ◌∙◌, subst, one-mul, mul-suc, arith, length-append}
 use Rattle.std.proofs.lemmas.List.{length-map}
 use Rattle.std.proofs.lemmas.Bool.{eqb-true, ne_eqb}
 use Rattle.grammar.specs.Lists.{those, each, count_up, below}
 use Rattle.grammar.proofs.Lists.{length_count_up}
-use Rattle.grammar.specs.Productions.{Book, Production}
-use Rattle.grammar.specs.Binarised.{Right, terminal, Rule, Binarised, OwnRule, rules_in, rules_of}
+use Rattle.grammar.specs.Productions.{Book}
+use Rattle.grammar.specs.Binarised.{terminal, OwnRule, rules_in, rules_of}
 use Rattle.grammar.specs.Nullable.{nullable}
 use Rattle.grammar.specs.Chains.{steps_by, steps, within, reached}
-use Rattle.grammar.specs.Strict.{StrictFormRule, strict_rule, proper, strict_rules_of, strict_rules}
+use Rattle.grammar.specs.Strict.{strict_rule, proper, strict_rules_of, strict_rules}
 use Rattle.grammar.specs.Binarise.{terminal_rule, binarised, Admitted}
 use Rattle.conversion.proofs.Found.{within_none}
 

@@ -1,8 +1,8 @@
 -- There is at most one proof that a book is sound, so that a fact of which only the existence is kept can be used.
-use Rattle.std.proofs.Common.{◌≡◌, ℕ, ◌<◌, ◌≤◌, List, [], ◌∷◌}
+use Rattle.std.proofs.Common.{◌≡◌, List, [], ◌∷◌}
 use mathlib.Core.Logic.{∥∥₁_elim}
 use native.Mathlib.Bridge.{le_prop}
-use Rattle.grammar.specs.Lists.{Mem, Sorted}
+use Rattle.grammar.specs.Lists.{Sorted}
 use Rattle.grammar.specs.Productions.{Production, Book, SameRule, Sound}
 use Rattle.grammar.specs.Binarise.{Admitted}
 

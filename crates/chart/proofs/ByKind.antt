@@ -1,9 +1,8 @@
 -- The totals of the three weighings.
-use Rattle.std.proofs.Common.{◌≡◌, ℕ, ◌≤◌, min, Bool, true, false, List, sym, refl, ap, ◌∙◌, subst, arith}
+use Rattle.std.proofs.Common.{◌≡◌, ℕ, Bool, List, sym, refl, ap, ◌∙◌, arith}
 use Rattle.grammar.specs.Productions.{Book, Sound}
-use Rattle.grammar.specs.Weighings.{yes_no, counts, costs, Keeps}
+use Rattle.grammar.specs.Weighings.{counts, costs, Keeps}
 use Rattle.grammar.specs.Weights.{total_of}
-use Rattle.grammar.specs.Promises.{Least}
 use Rattle.grammar.proofs.Totals.{sums_plain, none_exact, least_exact, carries}
 use Rattle.grammar.proofs.Chart.{yes_chart, symbol_sets}
 use Rattle.weighing.specs.declared.capped.Capped.{Capped}

@@ -1,7 +1,7 @@
 -- The column of an event, middle by middle.
-use Rattle.std.proofs.Common.{◌≡◌, ℕ, zero, suc, ◌+◌, ◌-◌, ◌<◌, ◌≤◌, Bool, ◌⊎◌, List, [], ◌∷◌, ◌++◌, map, length, get_or, sym, refl, ap, ◌∙◌, subst, ap₂, inl, inr, ⊎_elim, add-one, arith}
+use Rattle.std.proofs.Common.{◌≡◌, ℕ, zero, suc, ◌+◌, ◌-◌, ◌<◌, ◌≤◌, Bool, List, [], ◌∷◌, ◌++◌, map, length, get_or, sym, refl, ap, ◌∙◌, subst, ap₂, inl, inr, ⊎_elim, add-one, arith}
 use Rattle.std.proofs.lemmas.List.{length_push, get_or_push}
-use Rattle.std.proofs.lemmas.Bool.{cases_lt, cases_eq}
+use Rattle.std.proofs.lemmas.Bool.{cases_lt}
 use Rattle.grammar.specs.Lists.{Mem, span, count_up, those}
 use Rattle.grammar.specs.Semiring.{Ops, Semiring, sum}
 use Rattle.grammar.specs.Productions.{Book, Sound}
@@ -18,7 +18,7 @@ use Rattle.chart.specs.Charts.{over_event, over_parts, HoldsChart}
 use Rattle.chart.proofs.SumLaws.{sum_exchange}
 use Rattle.chart.proofs.Outside.{same_all, same_then, same_wider}
 use Rattle.chart.proofs.RuleSums.{parts_within}
-use Rattle.chart.proofs.Places.{cell_before, cell_within, cell_next, cell_mono, start_mono}
+use Rattle.chart.proofs.Places.{cell_before, cell_within, cell_next, cell_mono}
 
 -- numbers from i + a on
 count_up_from : (i a n : ℕ) → count_up (i + a) n ≡ map (λ m. i + m) (count_up a n)

@@ -1,6 +1,6 @@
 -- The pairs over a right cell, rule by rule.
-use Rattle.std.proofs.Common.{◌≡◌, ℕ, suc, ◌+◌, ◌<◌, ◌≤◌, cond, eqb, ◌⊎◌, List, [], map, length, get_or, take, sym, ap, ◌∙◌, subst, ap₂, ⊎_elim, arith}
-use Rattle.std.proofs.lemmas.List.{take_all, length-map}
+use Rattle.std.proofs.Common.{◌≡◌, ℕ, ◌+◌, ◌<◌, ◌≤◌, cond, eqb, List, [], map, length, get_or, take, sym, ap, ◌∙◌, subst, ap₂, ⊎_elim, arith}
+use Rattle.std.proofs.lemmas.List.{take_all}
 use Rattle.grammar.specs.Lists.{Mem}
 use Rattle.grammar.specs.Semiring.{Ops, Semiring}
 use Rattle.grammar.specs.Productions.{Book, Sound}
@@ -10,7 +10,6 @@ use Rattle.grammar.specs.Weights.{strict_weight_of}
 use Rattle.conversion.specs.Views.{strict_rule_of}
 use Rattle.conversion.specs.declared.strict.StrictRule.{StrictRule}
 use Rattle.conversion.proofs.Firsts.{get_d_mem}
-use Rattle.chart.specs.declared.pairs.Pair.{Pair}
 use Rattle.chart.specs.declared.pairs.Pairs.{Pairs}
 use Rattle.chart.specs.Weights.{StrictWeights}
 use Rattle.chart.specs.Charts.{over_parts}

@@ -1,5 +1,5 @@
 -- What a closed book says of its strict rules.
-use Rattle.std.proofs.Common.{◌≡◌, ℕ, ◌<◌, ◌≤◌, List, map, length, take, ap, ◌∙◌}
+use Rattle.std.proofs.Common.{◌≡◌, ◌≤◌, List, map, length, take, ap, ◌∙◌}
 use Rattle.grammar.specs.Productions.{Sound}
 use Rattle.grammar.specs.Binarise.{binarised}
 use Rattle.grammar.specs.Strict.{strict_rules}
@@ -9,7 +9,7 @@ use Rattle.conversion.specs.declared.strict.StrictRule.{StrictRule}
 use Rattle.book.specs.declared.alphabet.Alphabet.{Ghosts}
 use Rattle.book.specs.declared.books.ClosedBook.{ClosedBook}
 use Rattle.book.specs.Books.{closed_book}
-use Rattle.book.proofs.Closed.{strict_kept, symbols_kept}
+use Rattle.book.proofs.Closed.{strict_kept}
 use Rattle.book.proofs.Props.{admitted_of}
 
 module _ {A E P : Type 0} {G : Ghosts A E P} (b : ClosedBook A E P G) where

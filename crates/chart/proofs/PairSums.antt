@@ -1,7 +1,7 @@
 -- Strict pairs over a right part, and what they come to.
-use Rattle.std.proofs.Common.{◌≡◌, ℕ, suc, ◌<◌, ◌≤◌, Bool, true, false, cond, eqb, ◌⊎◌, List, [], ◌∷◌, ◌++◌, sym, refl, ap, ◌∙◌, subst, inl, inr, ⊎_elim, arith}
+use Rattle.std.proofs.Common.{◌≡◌, ℕ, suc, ◌≤◌, Bool, true, false, cond, eqb, List, [], ◌∷◌, ◌++◌, sym, refl, ap, ◌∙◌, subst, inl, inr, ⊎_elim, arith}
 use Rattle.grammar.specs.Lists.{Mem}
-use Rattle.grammar.specs.Semiring.{Ops, Semiring, sum}
+use Rattle.grammar.specs.Semiring.{Ops, Semiring}
 use Rattle.grammar.specs.Binarised.{Right as RightSide, binary}
 use Rattle.grammar.specs.Cells.{is_binary, sides}
 use Rattle.grammar.proofs.Lists.{mem_append}

@@ -1,5 +1,5 @@
 -- Sums over the strict rules of a book, rule by rule.
-use Rattle.std.proofs.Common.{◌≡◌, ℕ, suc, ◌+◌, ◌<◌, ◌≤◌, Bool, true, false, cond, eqb, List, [], ◌∷◌, ◌++◌, map, length, get_or, take, sym, refl, ap, ◌∙◌, subst, arith}
+use Rattle.std.proofs.Common.{◌≡◌, ℕ, ◌<◌, Bool, true, cond, eqb, List, map, length, get_or, sym, ap, ◌∙◌, subst, arith}
 use Rattle.std.proofs.lemmas.List.{get_or-map, length-map}
 use Rattle.grammar.specs.Lists.{Mem, those}
 use Rattle.grammar.specs.Semiring.{Ops, Semiring, sum}
@@ -16,7 +16,7 @@ use Rattle.conversion.specs.Views.{strict_rule_of}
 use Rattle.conversion.proofs.Firsts.{get_d_mem}
 use Rattle.conversion.specs.declared.strict.StrictRule.{StrictRule}
 use Rattle.chart.specs.Charts.{over_event, over_parts}
-use Rattle.chart.proofs.SumLaws.{sum_cond, sum_more}
+use Rattle.chart.proofs.SumLaws.{sum_cond}
 use Rattle.chart.proofs.PairSums.{side_sum}
 
 -- of these strict rules, those of the symbol x, by what each comes to

@@ -1,5 +1,5 @@
 -- The array of pairs has room in memory, since a value is small.
-use Rattle.std.proofs.Common.{◌≡◌, ℕ, ◌+◌, ◌-◌, ◌*◌, ◌%◌, ◌<◌, ◌≤◌, max, sym, ap, subst, mod-lt, arith, w8, w16, w32, w64}
+use Rattle.std.proofs.Common.{ℕ, ◌+◌, ◌-◌, ◌*◌, ◌%◌, ◌<◌, ◌≤◌, max, mod-lt, arith, w8, w16, w32, w64}
 use mir.Syntax.{Width, w128, Ty}
 use mir.Val.{bytes}
 use prog.Memory.{size, align, up}

@@ -1,8 +1,7 @@
 -- Feeds and totals, from what the table holds.
-use Rattle.std.proofs.Common.{◌≡◌, ℕ, zero, suc, ◌+◌, ◌-◌, ◌*◌, ◌<◌, ◌≤◌, Bool, cond, List, [], ◌∷◌, ◌++◌, length, get_or, sym, refl, ap, ◌∙◌, subst, ap₂, zero-mul, arith}
+use Rattle.std.proofs.Common.{◌≡◌, ℕ, ◌+◌, ◌-◌, ◌<◌, ◌≤◌, Bool, List, [], ◌∷◌, length, get_or, sym, refl, ap, ◌∙◌, subst, zero-mul, arith}
 use Rattle.std.proofs.lemmas.Bool.Decides.{nat_tests}
 use Rattle.std.proofs.lemmas.List.{take_all, nil_from_length}
-use Rattle.grammar.specs.Lists.{span}
 use Rattle.grammar.specs.Semiring.{Ops, Semiring}
 use Rattle.grammar.specs.Productions.{Book, Sound}
 use Rattle.grammar.specs.Binarise.{binarised}

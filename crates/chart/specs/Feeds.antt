@@ -1,5 +1,5 @@
 -- What a feed meets, and what it leaves.
-use Rattle.std.specs.Prelude.{◌≡◌, ℕ, ◌+◌, Bool, cond, ◌||◌, eqb, ltb, List, [], ◌∷◌, ◌++◌, length, Ok, Err, Result}
+use Rattle.std.specs.Prelude.{◌≡◌, ℕ, ◌+◌, Bool, List, [], ◌∷◌, ◌++◌, length, Ok, Err, Result}
 use Rattle.grammar.specs.Semiring.{Ops}
 pub use Rattle.grammar.specs.Rooms.{feed_refusal}
 use Rattle.book.specs.declared.alphabet.Alphabet.{Ghosts}

@@ -1,5 +1,5 @@
 -- Where the weights of a chart lie in its table of S symbols a cell, and what is written there.
-use Rattle.std.specs.Prelude.{◌≡◌, ℕ, ◌+◌, ◌-◌, ◌*◌, ◌/◌, ◌<◌, ◌≤◌, ◌⊎◌, List, slice_index_or}
+use Rattle.std.specs.Prelude.{◌≡◌, ℕ, ◌+◌, ◌*◌, ◌<◌, ◌≤◌, ◌⊎◌, List, slice_index_or}
 use Rattle.grammar.specs.Semiring.{Ops}
 pub use Rattle.grammar.specs.Rooms.{column_place}
 

@@ -1,4 +1,4 @@
-use Rattle.std.proofs.Common.{◌<◌, ◌≤◌, length, ap, arith, rules}
+use Rattle.std.proofs.Common.{length, ap, arith, rules}
 use Rattle.std.proofs.lemmas.List.{length-map}
 use Rattle.conversion.specs.Views.{strict_rule_of}
 use Rattle.conversion.specs.declared.right.Right.TheVariants.{Empty}

@@ -1,4 +1,4 @@
-use Rattle.std.proofs.Common.{◌≤◌, arith}
+use Rattle.std.proofs.Common.{arith}
 use Rattle.conversion.specs.Rows.{production_of}
 use Rattle.book.proofs.Held.{many, in_place}
 use Rattle.book.proofs.books.ClosedBook.rule.Goals as goal

@@ -1,4 +1,4 @@
-use Rattle.std.proofs.Common.{min, length, refl, ap, ◌∙◌, arith}
+use Rattle.std.proofs.Common.{refl, ap, ◌∙◌, arith}
 use Rattle.book.specs.Fits.{pattern_count}
 use Rattle.book.specs.Loads.{load}
 use Rattle.book.specs.Rules.{held}

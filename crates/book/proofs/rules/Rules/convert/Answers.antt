@@ -1,4 +1,4 @@
-use Rattle.std.proofs.Common.{◌≡◌, ◌-◌, take, sym, subst, arith}
+use Rattle.std.proofs.Common.{◌≡◌, ◌-◌, take, subst, arith}
 use Rattle.grammar.specs.Productions.{Sound}
 use Rattle.conversion.specs.Binarised.{rows_book}
 use Rattle.conversion.specs.Forms.{FormOf}

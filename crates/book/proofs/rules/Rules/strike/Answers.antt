@@ -1,4 +1,4 @@
-use Rattle.std.proofs.Common.{◌-◌, ◌≤◌, refl, arith}
+use Rattle.std.proofs.Common.{◌-◌, refl, arith}
 use Rattle.conversion.specs.Rows.{production_of}
 use Rattle.conversion.proofs.Pushes.{held_length}
 use Rattle.book.specs.Rules.{held}
