@@ -1,5 +1,5 @@
 -- Which pattern fits which event.
-use Rattle.std.specs.Prelude.{◌≡◌, ℕ, zero, suc, ◌<◌, ◌≤◌, min, Bool, false, ◌&&◌, List, [], ◌∷◌, length, ◌==◌, nat_le, slice_index_or}
+use Rattle.std.specs.Prelude.{◌≡◌, ℕ, zero, suc, ◌<◌, ◌≤◌, min, Bool, T, false, ◌&&◌, List, [], ◌∷◌, length, ◌==◌, nat_le, slice_index_or}
 use Rattle.book.specs.declared.kinds.CardEvent.{CardEvent}
 use Rattle.book.specs.declared.kinds.CardPattern.{CardPattern}
 
@@ -10,6 +10,14 @@ CardFits p e = (p.kind ≡ e.kind) × (p.lowest ≤ e.argument) × (e.argument �
 -- the same, as a test
 abbrev pub card_test : CardPattern → CardEvent → Bool
 card_test p e = p.kind == e.kind && nat_le p.lowest e.argument && nat_le e.argument p.highest
+
+-- a test of a relation: it says yes exactly of the pairs that the relation has
+abbrev pub Tests : {P E : Type 0} → (P → E → Type 0) → (P → E → Bool) → Type 0
+Tests {P} {E} fits test = (p : P) (e : E) → (T (test p e) → fits p e) × (fits p e → T (test p e))
+
+-- for every test of a relation
+abbrev pub ForTests : {P E : Type 0} → (P → E → Type 0) → ((P → E → Bool) → Type 0) → Type 0
+ForTests {P} {E} fits X = (test : P → E → Bool) → Tests fits test → X test
 
 -- whether pattern t of a table fits the event, by the test of one pattern; past the table none does
 abbrev pub table_fits : {P E : Type 0} → (P → E → Bool) → List P → E → ℕ → Bool

@@ -7,4 +7,3 @@ pub mod Offers
 pub mod Loads
 pub mod Strikes
 pub mod Runs
-pub mod Alphabets

@@ -1,7 +1,6 @@
 // Alphabets: a kind of event, a kind of pattern, and which pattern fits which event.
-ghost use Rattle.std.specs.Prelude.{◌≡◌, Bool, T, nat_eq};
-ghost use Rattle.book.specs.Fits.{CardFits, card_test};
-ghost use Rattle.book.specs.Alphabets.{bytes_exact, cards_exact};
+ghost use Rattle.std.specs.Prelude.{◌≡◌, ℕ, T, nat_eq};
+ghost use Rattle.book.specs.Fits.{CardFits, card_test, Tests};
 
 use crate::kinds::{CardEvent, CardPattern};
 
@@ -13,15 +12,10 @@ pub trait Alphabet {
     // the pattern fits the event
     ghost fits: { Self.Pattern → Self.Event → Type 0 };
 
-    // the same, as a test
-    ghost test: { Self.Pattern → Self.Event → Bool };
-
     // Whether the pattern fits the event.
     fn fit(pattern: Self::Pattern, event: Self::Event) -> bool
         ensures only { T result → fits pattern event }
         ensures always { fits pattern event → T result };
-
-    ghost exact: { (p : Self.Pattern) (e : Self.Event) → (T (test p e) → fits p e) × (fits p e → T (test p e)) };
 }
 
 // Bytes: a pattern is one byte and fits its equal.
@@ -34,11 +28,11 @@ impl Alphabet for Bytes {
 
     ghost fits = { λ p e. p ≡ e };
 
-    ghost test = { nat_eq };
-
-    ghost exact = { bytes_exact };
-
-    fn fit(pattern: u8, event: u8) -> bool {
+    fn fit(pattern: u8, event: u8) -> bool
+        ensures only { T result → pattern ≡ event }
+        ensures always { pattern ≡ event → T result }
+        ensures tested { Tests (λ (p e : ℕ). p ≡ e) nat_eq }
+    {
         pattern == event
     }
 }
@@ -53,11 +47,11 @@ impl Alphabet for Cards {
 
     ghost fits = { CardFits };
 
-    ghost test = { card_test };
-
-    ghost exact = { cards_exact };
-
-    fn fit(pattern: CardPattern, event: CardEvent) -> bool {
+    fn fit(pattern: CardPattern, event: CardEvent) -> bool
+        ensures only { T result → CardFits pattern event }
+        ensures always { CardFits pattern event → T result }
+        ensures tested { Tests CardFits card_test }
+    {
         pattern.kind == event.kind
             && pattern.lowest <= event.argument
             && event.argument <= pattern.highest

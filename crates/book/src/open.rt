@@ -5,7 +5,7 @@ ghost use Rattle.book.specs.Books.{open_held, closed_held, closed_book, closed_f
 ghost use Rattle.grammar.specs.Binarise.{binarised};
 ghost use Rattle.grammar.specs.Strict.{strict_rules};
 ghost use Rattle.conversion.specs.Views.{strict_rule_of};
-ghost use Rattle.book.specs.Fits.{FitsAt, pattern_count};
+ghost use Rattle.book.specs.Fits.{ForTests, FitsAt, pattern_count};
 ghost use Rattle.book.specs.Loads.{Loaded, load, load_is, LoadMeans};
 ghost use Rattle.book.specs.Offers.{Offered};
 ghost use Rattle.book.specs.Rules.{held};
@@ -140,7 +140,7 @@ impl<'p, A: Alphabet> ClosedBook<'p, A> {
     pub fn fits(&self, number: u8, event: A::Event) -> bool
         ensures only { T result → FitsAt A.Alphabet.fits self.now.table.patterns.now number event }
         ensures always { FitsAt A.Alphabet.fits self.now.table.patterns.now number event → T result }
-        ensures is { result ≡ closed_fits A.Alphabet.test self.now event number }
+        ensures is { ForTests A.Alphabet.fits (λ test. result ≡ closed_fits test self.now event number) }
     {
         self.table.fits(number, event)
     }

@@ -1,6 +1,6 @@
 // What is asked of a table of patterns.
 ghost use Rattle.std.specs.Prelude.{◌≡◌, ◌≤◌, T};
-ghost use Rattle.book.specs.Fits.{FitsAt, table_fits, pattern_count};
+ghost use Rattle.book.specs.Fits.{ForTests, FitsAt, table_fits, pattern_count};
 ghost use Rattle.book.specs.Tables.{Checked};
 
 use crate::alphabet::Alphabet;
@@ -14,7 +14,7 @@ const PATTERNS: usize = 32;
 fn fits_at<A: Alphabet>(patterns: &[A::Pattern], number: u8, event: A::Event) -> bool
     ensures only { T result → FitsAt A.Alphabet.fits patterns.now number event }
     ensures always { FitsAt A.Alphabet.fits patterns.now number event → T result }
-    ensures is { result ≡ table_fits A.Alphabet.test patterns.now event number }
+    ensures is { ForTests A.Alphabet.fits (λ test. result ≡ table_fits test patterns.now event number) }
 {
     let at = number as usize;
     if at < patterns.len() {
@@ -51,7 +51,7 @@ impl<'p, A: Alphabet> PatternTable<'p, A> {
     pub fn fits(&self, number: u8, event: A::Event) -> bool
         ensures only { T result → FitsAt A.Alphabet.fits self.now.patterns.now number event }
         ensures always { FitsAt A.Alphabet.fits self.now.patterns.now number event → T result }
-        ensures is { result ≡ table_fits A.Alphabet.test self.now.patterns.now event number }
+        ensures is { ForTests A.Alphabet.fits (λ test. result ≡ table_fits test self.now.patterns.now event number) }
     {
         fits_at::<A>(self.patterns, number, event)
     }

@@ -20,6 +20,24 @@ use Rattle.chart.proofs.Outside.{same_all, same_then, same_wider}
 use Rattle.chart.proofs.RuleSums.{parts_within}
 use Rattle.chart.proofs.Places.{cell_before, cell_within, cell_next, cell_mono}
 
+-- a write to cells before the start k of the column of event e leaves what is outside the column
+pub outside_more : {V : Type 0} (d : V) (s e k : ℕ) (first was is : List V) → k < e → SameOutside d (column_place s e) (column_place s (e + 1)) first was
+    → SameOutside d (column_place s e) (cell_place s e k) was is → SameOutside d (column_place s e) (column_place s (e + 1)) first is
+outside_more d s e k first was is h before now =
+    same_then d (column_place s e) (column_place s (e + 1)) first was is before
+    (same_wider d (column_place s e) (cell_place s e k) (column_place s e) (column_place s (e + 1)) was is (omega arith) (omega (arith, cell_within s e k h)) now)
+
+-- so do the clearing of the column, the writes to its last cell, and the rest
+pub outside_all : {V : Type 0} (d : V) (s e from to last : ℕ) (was mid first is : List V) → 0 < e → from ≡ column_place s e → to ≡ column_place s (e + 1) → last ≡ cell_place s e (e - 1)
+    → SameOutside d from to was mid → SameOutside d last (last + s) mid first → SameOutside d (column_place s e) (column_place s (e + 1)) first is
+    → SameOutside d (column_place s e) (column_place s (e + 1)) was is
+outside_all d s e from to last was mid first is he f t l cleared one rest =
+    let a = column_place s e in
+    let b = column_place s (e + 1) in
+    let zeros = subst (λ m. SameOutside d a m was mid) t (subst (λ m. SameOutside d m to was mid) f cleared) in
+    same_then d a b was first is
+    (same_then d a b was mid first zeros (same_wider d last (last + s) a b mid first (omega (arith, l)) (omega (arith, l, cell_within s e (e - 1) (omega arith))) one)) rest
+
 -- numbers from i + a on
 count_up_from : (i a n : ℕ) → count_up (i + a) n ≡ map (λ m. i + m) (count_up a n)
 count_up_from i a zero = refl

@@ -2,8 +2,9 @@
 ghost use Rattle.std.specs.Prelude.{◌≡◌, ℕ, ◌+◌, ◌<◌, ◌≤◌, length, if◌then◌else◌, nat_eq, slice_index_or};
 ghost use Rattle.grammar.specs.Cells.{terminal_fits};
 ghost use Rattle.conversion.specs.Views.{right_side_of};
+ghost use Rattle.book.specs.Fits.{ForTests};
 ghost use Rattle.book.specs.Books.{closed_book, closed_fits};
-ghost use Rattle.chart.specs.Table.{column_place, cell_place, Cleared, Added};
+ghost use Rattle.chart.specs.Table.{SameOutside, column_place, cell_place, Cleared, Added};
 ghost use Rattle.chart.specs.Weights.{OfBook};
 ghost use Rattle.chart.specs.Charts.{over_event};
 
@@ -72,7 +73,7 @@ fn event_weight<A: Alphabet, W: Weighing>(
     weight: W::Value,
     event: A::Event,
 ) -> W::Value
-    ensures { result ≡ (if terminal_fits (closed_fits A.Alphabet.test book.now) event (right_side_of right) then weight else W.Weighing.ops.zero) }
+    ensures { ForTests A.Alphabet.fits (λ test. result ≡ (if terminal_fits (closed_fits test book.now) event (right_side_of right) then weight else W.Weighing.ops.zero)) }
 {
     match right {
         Right::Terminal(t) => {
@@ -97,7 +98,8 @@ pub(crate) fn one_event<A: Alphabet, W: Weighing>(
 )
     requires book { OfBook W.Weighing.ops (closed_book book.now) symbols each.now }
     requires room { (cell + symbols ≤ length weights.old) × (cell ≤ 10000000) }
-    ensures { Added W.Weighing.ops symbols cell (over_event (closed_book book.now) W.Weighing.ops (closed_fits A.Alphabet.test book.now) event) weights.old weights.new }
+    ensures outside { SameOutside W.Weighing.ops.zero cell (cell + symbols) weights.old weights.new }
+    ensures sums { ForTests A.Alphabet.fits (λ test. Added W.Weighing.ops symbols cell (over_event (closed_book book.now) W.Weighing.ops (closed_fits test book.now) event) weights.old weights.new) }
 {
     for (i, rule) in book.form().strict().iter().enumerate() {
         let weight = event_weight::<A, W>(book, rule.right, peek::<W>(each, i), event);

@@ -2,6 +2,7 @@
 ghost use Rattle.std.specs.Prelude.{◌≡◌, ℕ, ◌+◌, ◌<◌, Bool, List, [], ◌∷◌, ◌++◌, length, slice_index_or};
 ghost use Rattle.grammar.specs.Binarise.{binarised};
 ghost use Rattle.grammar.specs.Weights.{total_of};
+ghost use Rattle.book.specs.Fits.{ForTests};
 ghost use Rattle.book.specs.Books.{closed_book, closed_fits};
 ghost use Rattle.chart.specs.Table.{column_place, SameOutside, Room};
 ghost use Rattle.chart.specs.Weights.{StrictWeights};
@@ -59,7 +60,7 @@ fn fill<A: Alphabet, W: Weighing>(
     requires symbols { symbols ≡ (binarised (closed_book book.now)).symbols }
     requires room { Room symbols end (length weights.old) }
     ensures outside { SameOutside W.Weighing.ops.zero (column_place symbols end) (column_place symbols (end + 1)) weights.old weights.new }
-    ensures chart { (es : List A.Event) → length es + 1 ≡ end → HoldsChart (closed_book book.now) W.Weighing.ops (closed_fits A.Alphabet.test book.now) es weights.old → HoldsChart (closed_book book.now) W.Weighing.ops (closed_fits A.Alphabet.test book.now) (es ++ (event ∷ [])) weights.new }
+    ensures chart { ForTests A.Alphabet.fits (λ test. (es : List A.Event) → length es + 1 ≡ end → HoldsChart (closed_book book.now) W.Weighing.ops (closed_fits test book.now) es weights.old → HoldsChart (closed_book book.now) W.Weighing.ops (closed_fits test book.now) (es ++ (event ∷ [])) weights.new) }
 {
     let each = weigh::<A, W>(book);
     column::<A, W>(weights, book, &each, symbols, end, event);
@@ -69,7 +70,7 @@ impl<'b, 'p, 't, A: Alphabet, W: Weighing> Chart<'b, 'p, 't, A, W> {
     // A chart of no events over the table, which it leaves as it is.
     pub fn cut(book: &'b ClosedBook<'p, A>, weights: &'t mut [W::Value]) -> Chart<'b, 'p, 't, A, W>
         ensures none { result.held.events ≡ 0 }
-        ensures holds { Holds W.Weighing.ops A.Alphabet.test result [] }
+        ensures holds { (test : A.Pattern → A.Event → Bool) → Holds W.Weighing.ops test result [] }
         ensures book { result.book.now ≡ book.now }
         ensures table { result.weights.now ≡ weights.old }
         ensures same { result.weights.ghost_name ≡ weights.entry.ghost_name }
@@ -91,7 +92,7 @@ impl<'b, 'p, 't, A: Alphabet, W: Weighing> Chart<'b, 'p, 't, A, W> {
     // One event more: how many are held then, or the refusal.
     pub fn feed(&mut self, event: A::Event) -> Result<usize, FeedFault>
         ensures says { Fed W.Weighing.ops.zero self.old.book.now.form.binarised.symbols self.old.weights.now self.old.held.events self.new.weights.now self.new.held.events result }
-        ensures chart { FedEvent W.Weighing.ops A.Alphabet.test event self.old self.new result }
+        ensures chart { ForTests A.Alphabet.fits (λ test. FedEvent W.Weighing.ops test event self.old self.new result) }
         ensures book { self.new.book ≡ self.old.book }
         ensures same { self.new.weights.ghost_name ≡ self.old.weights.ghost_name }
     {
@@ -109,7 +110,7 @@ impl<'b, 'p, 't, A: Alphabet, W: Weighing> Chart<'b, 'p, 't, A, W> {
     // Head 0's weight over all events held.
     pub fn total(&self) -> W::Value
         ensures stands { 0 < self.now.held.events → result ≡ slice_index_or self.now.weights.now (column_place self.now.book.now.form.binarised.symbols self.now.held.events) W.Weighing.ops.zero }
-        ensures means { (es : List A.Event) → Holds W.Weighing.ops A.Alphabet.test self.now es → TotalIs (chart_book self.now) W.Weighing.ops (chart_fits A.Alphabet.test self.now) es result }
+        ensures means { ForTests A.Alphabet.fits (λ test. (es : List A.Event) → Holds W.Weighing.ops test self.now es → TotalIs (chart_book self.now) W.Weighing.ops (chart_fits test self.now) es result) }
     {
         let n = self.held();
         if n == 0 {

@@ -1,5 +1,6 @@
 // The columns of a chart's table.
 ghost use Rattle.std.specs.Prelude.{◌≡◌, ℕ, ◌+◌, ◌<◌, ◌≤◌, List, [], ◌∷◌, ◌++◌, length, slice_index_or};
+ghost use Rattle.book.specs.Fits.{ForTests};
 ghost use Rattle.book.specs.Books.{closed_book, closed_fits};
 ghost use Rattle.chart.specs.Table.{column_place, cell_place, cell_at, SameOutside, Added, AddedStarts, Room};
 ghost use Rattle.chart.specs.Weights.{OfBook};
@@ -104,7 +105,7 @@ pub(crate) fn column<A: Alphabet, W: Weighing>(
     requires book { OfBook W.Weighing.ops (closed_book book.now) symbols each.now }
     requires room { Room symbols end (length weights.old) }
     ensures outside { SameOutside W.Weighing.ops.zero (column_place symbols end) (column_place symbols (end + 1)) weights.old weights.new }
-    ensures chart { (es : List A.Event) → length es + 1 ≡ end → HoldsChart (closed_book book.now) W.Weighing.ops (closed_fits A.Alphabet.test book.now) es weights.old → HoldsChart (closed_book book.now) W.Weighing.ops (closed_fits A.Alphabet.test book.now) (es ++ (event ∷ [])) weights.new }
+    ensures chart { ForTests A.Alphabet.fits (λ test. (es : List A.Event) → length es + 1 ≡ end → HoldsChart (closed_book book.now) W.Weighing.ops (closed_fits test book.now) es weights.old → HoldsChart (closed_book book.now) W.Weighing.ops (closed_fits test book.now) (es ++ (event ∷ [])) weights.new) }
 {
     let from = column_place(symbols, end);
     let to = column_place(symbols, end + 1);

@@ -34,10 +34,12 @@ pub trait Weighing {
     fn weight(cost: u16) -> Self::Value
         ensures { result ≡ ops.weight cost };
 
-    // Whether a value is the weight of no derivation, so that work on it can be left out.
+    // Whether a value is known to be the weight of no derivation, so that work on it can be left out. A weighing that cannot tell says no.
     fn is_zero(v: Self::Value) -> bool
         ensures only { T result → v ≡ ops.zero }
-        ensures always { v ≡ ops.zero → T result };
+    {
+        false
+    }
 
     ghost semiring: { Semiring ops };
 

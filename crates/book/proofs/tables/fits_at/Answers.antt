@@ -11,12 +11,10 @@ returns-then-at-patterns g c =
     let p = c.index-patterns-at.result in
     let is = c.index-patterns-at.is in
     let fits = g.A.Alphabet.fits in
-    let test = g.A.Alphabet.test in
-    let exact = g.met.A.Alphabet.exact p e in
     record {
       only = λ r. (c.if-at-patterns.true, λ d. subst (λ q. fits q e) (get_or_read ps t p c.if-at-patterns.true is d) (c.fit.ensures.only r));
       always = λ h. c.fit.ensures.always (subst (λ q. fits q e) (sym is) (h.1 p));
-      is = same_answer _ (test p e) (λ r. exact.1 (c.fit.ensures.only r)) (λ r. c.fit.ensures.always (exact.0 r))
+      is = λ test exact. same_answer _ (test p e) (λ r. (exact p e).1 (c.fit.ensures.only r)) (λ r. c.fit.ensures.always ((exact p e).0 r))
           ∙ ap (λ q. test q e) is ∙ sym (table_at test ps e t p c.if-at-patterns.true);
     }
 
@@ -24,5 +22,5 @@ pub returns-else-at-patterns : goal.returns-else-at-patterns
 returns-else-at-patterns g c = record {
   only = λ r. absurd r;
   always = λ h. absurd (omega (arith, h.0, c.if-at-patterns.false));
-  is = sym (table_past g.A.Alphabet.test c.args.patterns.now c.args.event c.args.number c.if-at-patterns.false);
+  is = λ test exact. sym (table_past test c.args.patterns.now c.args.event c.args.number c.if-at-patterns.false);
 }

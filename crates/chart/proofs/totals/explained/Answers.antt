@@ -4,6 +4,6 @@ use Rattle.chart.proofs.ByKind.{explained_by}
 use Rattle.chart.proofs.totals.explained.Goals as goal
 
 pub returns : goal.returns
-returns g c es h =
+returns g c test exact es h =
     let k = c.args.chart.now in
-    explained_by (chart_book k) (book_sound k.book.now) (chart_fits g.A.Alphabet.test k) es _ (cc (c.total-verdict.ensures.means es h).is_total)
+    explained_by (chart_book k) (book_sound k.book.now) (chart_fits test k) es _ (cc (c.total-verdict.ensures.means test exact es h).is_total)

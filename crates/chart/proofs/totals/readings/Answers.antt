@@ -5,6 +5,6 @@ use Rattle.chart.proofs.ByKind.{counted_by}
 use Rattle.chart.proofs.totals.readings.Goals as goal
 
 pub returns : goal.returns
-returns g c es h =
+returns g c test exact es h =
     let k = c.args.chart.now in
-    counted_by (chart_book k) (book_sound k.book.now) (chart_fits g.A.Alphabet.test k) es _ c.total-count.result (omega (arith, c.value.ensures)) (c.total-count.ensures.means es h).is_total
+    counted_by (chart_book k) (book_sound k.book.now) (chart_fits test k) es _ c.total-count.result (omega (arith, c.value.ensures)) (c.total-count.ensures.means test exact es h).is_total

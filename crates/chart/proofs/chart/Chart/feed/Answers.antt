@@ -6,7 +6,7 @@ use Rattle.chart.proofs.Totalling.{no_refusal, outside_as}
 use Rattle.chart.proofs.chart.Chart.feed.Goals as goal
 
 pub returns-clause-chart : goal.returns-clause-chart
-returns-clause-chart g c =
+returns-clause-chart g c test exact =
     let was = c.args.self.now in
     let S = chart_symbols was in
     let n = c.held-n.result in
@@ -18,6 +18,6 @@ returns-clause-chart g c =
       no_refusal S (length was.weights.now) was.held.events (omega (arith, c.if-n-ge-EVENTS.false, held)) long,
       omega arith,
       omega (arith, held),
-      (λ es h. record { many = length_push es c.args.event ∙ ap (λ k. k + 1) (h.many ∙ sym held); chart = c.fill.ensures.chart es (ap (λ k. k + 1) (h.many ∙ sym held)) h.chart }),
+      (λ es h. record { many = length_push es c.args.event ∙ ap (λ k. k + 1) (h.many ∙ sym held); chart = c.fill.ensures.chart test exact es (ap (λ k. k + 1) (h.many ∙ sym held)) h.chart }),
       outside_as g.W.Weighing.ops.zero s S n was.held.events was.weights.now c.fill.new.weights means held c.fill.ensures.outside,
     )
