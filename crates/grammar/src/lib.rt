@@ -6,16 +6,14 @@ ghost use Rattle.grammar.specs.Semiring.{Ops, Semiring};
 ghost use Rattle.grammar.specs.Examples.{Shown};
 ghost use Rattle.grammar.specs.Promises.{AreGrammars, Rewrites, Offered, WellFormed, StaysProper, OneToOne, SameWeight, FoundInRounds, NullableChosen, ChainChosen, StrictListed, StrictForm, CellEquations, SpanEquations, YesChart, SymbolSets, SumsPlain, SumsAll, NoneExact, LeastExact, Carries, Told, SameNodes, TakesOne, AnswersOnce, Tables};
 
-/// Values with operations that form a commutative semiring.
-pub trait Lawful: Sized {
-    ghost ops: { Ops Self };
-
-    ghost semiring: { Semiring ops };
-}
-
 /// Values with operations, whatever laws these obey.
 pub trait Valued: Sized {
     ghost ops: { Ops Self };
+}
+
+/// Values with operations that form a commutative semiring.
+pub trait Lawful: Valued {
+    ghost semiring: { Semiring Self.ops };
 }
 
 /// The written productions, the binarised and the strict rules of a book each make a grammar.
@@ -50,7 +48,7 @@ pub fn one_to_one<E>()
 
 /// A reading and its binarised form have the same weight.
 pub fn same_weight<V: Lawful, E>()
-    ensures { SameWeight V.Lawful.ops E }
+    ensures { SameWeight V.ops E }
 {}
 
 /// What each round adds to the nullable symbols.
@@ -80,12 +78,12 @@ pub fn strict_form<E>()
 
 /// The two equations of a chart's cells, for every weighing.
 pub fn cell_equations<V: Lawful, E>()
-    ensures { CellEquations V.Lawful.ops E }
+    ensures { CellEquations V.ops E }
 {}
 
 /// The same equations by place in the events of a chart.
 pub fn span_equations<V: Lawful, E>()
-    ensures { SpanEquations V.Lawful.ops E }
+    ensures { SpanEquations V.ops E }
 {}
 
 /// A yes/no cell says yes exactly if the strict rules derive its events from its symbol.
@@ -100,12 +98,12 @@ pub fn symbol_sets<E>()
 
 /// The total is the sum over the plain readings, for every weighing.
 pub fn sums_plain<V: Lawful, E>()
-    ensures { SumsPlain V.Lawful.ops E }
+    ensures { SumsPlain V.ops E }
 {}
 
 /// Without productions of nothing and of a single head the total is the sum over all readings.
 pub fn sums_all<V: Lawful, E>()
-    ensures { SumsAll V.Lawful.ops E }
+    ensures { SumsAll V.ops E }
 {}
 
 /// Yes means a reading, and the count is the number of plain readings, held at the limit.
@@ -120,7 +118,7 @@ pub fn least_exact<E>()
 
 /// A map that keeps the operations keeps every cell and every total.
 pub fn carries<V: Valued, U: Valued, E>()
-    ensures { Carries V.Valued.ops U.Valued.ops E }
+    ensures { Carries V.ops U.ops E }
 {}
 
 /// The nodes of a reading stand over their events, and tell the reading.
