@@ -128,10 +128,6 @@ distinct_each f key of (x ∷ xs) d g h =
     (λ b p q. let r = each_mem f b xs q in
     d.0 (subst (λ k. Mem k (map of xs)) (sym (h r.0 b (inr r.1) r.2) ∙ h x b (inl refl) p) (mem_map of r.0 xs r.1)))
 
-pub map_same : {A : Type 0} (xs : List A) → map (λ a. a) xs ≡ xs
-map_same [] = refl
-map_same (x ∷ xs) = ap (λ l. x ∷ l) (map_same xs)
-
 pub map_map : {A B C : Type 0} (g : B → C) (f : A → B) (xs : List A) → map g (map f xs) ≡ map (λ a. g (f a)) xs
 map_map g f [] = refl
 map_map g f (x ∷ xs) = ap (λ l. g (f x) ∷ l) (map_map g f xs)

@@ -6,7 +6,8 @@ use Rattle.grammar.specs.Chains.{chosen_chain, within, reached}
 use Rattle.grammar.specs.Plain.{core}
 use Rattle.grammar.specs.Taken.{chain_over}
 use Rattle.grammar.proofs.PlainTrees.{grown, cores, all_in}
-use Rattle.grammar.proofs.Lists.{map_mem, each_mem, map_same, distinct_each, distinct_map, distinct_those, count_up_distinct, cuts_distinct}
+use Rattle.std.proofs.lemmas.List.{map-id}
+use Rattle.grammar.proofs.Lists.{map_mem, each_mem, distinct_each, distinct_map, distinct_those, count_up_distinct, cuts_distinct}
 use Rattle.grammar.proofs.ChainOver.{chain_over_same}
 use Rattle.grammar.proofs.Soundness.{Reads, cores_sound, chain_over_end, sound_in}
 
@@ -54,7 +55,7 @@ module _ (B : Binarised) (bounded : Bounded B) (numbered : Numbered B) {E : Type
       grown_once y n (binary a b) w =
           distinct_each (λ (c : Cut E). each (λ s. map (fork y n s) (trees b c.1)) (trees a c.0))
           (λ t. width (left_of t)) (λ (c : Cut E). length c.0) (cuts w) (cuts_distinct w)
-          (λ c m. distinct_each (λ s. map (fork y n s) (trees b c.1)) left_of (λ s. s) (trees a c.0) (rw (map_same (trees a c.0)) (once a c.0))
+          (λ c m. distinct_each (λ s. map (fork y n s) (trees b c.1)) left_of (λ s. s) (trees a c.0) (rw (map-id (trees a c.0)) (once a c.0))
           (λ s k. distinct_map (fork y n s) (trees b c.1) (λ t t' e. cc) (once b c.1))
           (λ s t k j. ap left_of (map_mem (fork y n s) t (trees b c.1) j).2))
           (λ c t m k.
@@ -75,7 +76,7 @@ module _ (B : Binarised) (bounded : Bounded B) (numbered : Numbered B) {E : Type
   once_in zero x w = tt
   once_in (suc k) x w =
       distinct_each (λ y. map (chain_over B (chosen_chain B x y)) (cores B fits (all_in B fits k) y w)) (λ s. root (core s)) (λ y. y) (reached B x)
-      (rw (map_same (reached B x)) (reached_once x))
+      (rw (map-id (reached B x)) (reached_once x))
       (λ y m. distinct_map (chain_over B (chosen_chain B x y)) (cores B fits (all_in B fits k) y w) (chain_over_same B bounded (chosen_chain B x y))
       (cores_once (all_in B fits k) (λ a u s. sound_in B bounded fits k a u s) (λ a u. once_in k a u) y w))
       (λ y s m k'.
