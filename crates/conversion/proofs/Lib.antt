@@ -6,6 +6,7 @@ pub mod Firsts
 pub mod Found
 pub mod Joined
 pub mod Linking
+pub mod Pushes
 pub mod Reaching
 pub mod Stepping
 pub mod Tails
