@@ -42,9 +42,9 @@ impl BinarisedRules {
     {
         let last = items.len() - 2;
         let mut left = head;
-        for k in 0..last {
+        for item in &items[..last] {
             let tail = self.tail();
-            self.push(left, number, Right::Binary(items[k], tail));
+            self.push(left, number, Right::Binary(*item, tail));
             left = tail;
         }
         self.push(left, number, Right::Binary(items[last], items[last + 1]));

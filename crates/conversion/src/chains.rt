@@ -27,6 +27,8 @@ impl Chains {
         *self.links.get(from as usize)?.get(to as usize)?
     }
 
+    // The chosen chain from one symbol to another is found.
+    // A test of the bounds, and no get_mut: that is one test inside the other.
     fn put(&mut self, from: u8, to: u8, chain: Chain)
         ensures { (x y : ℕ) → x < 128 → y < 128 → link self.new x y ≡ (if nat_eq x from && y == to then Some chain else link self.old x y) }
     {
@@ -75,9 +77,7 @@ impl Chains {
     {
         let mut grew = false;
         for step in list {
-            if self.extend(*step, steps) {
-                grew = true;
-            }
+            grew |= self.extend(*step, steps);
         }
         grew
     }

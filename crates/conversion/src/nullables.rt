@@ -37,11 +37,13 @@ impl Nullable {
         match right {
             Right::Empty => true,
             Right::Unit(y) => self.before(y, round),
-            Right::Binary(y, z) => self.before(y, round) & self.before(z, round),
+            Right::Binary(y, z) => self.before(y, round) && self.before(z, round),
             Right::Terminal(_) => false,
         }
     }
 
+    // A symbol comes in.
+    // A test of the bound, and no get_mut: after that the proof has no name for the table.
     fn put(&mut self, symbol: u8, by: Brought)
         ensures { self.new.brought ≡ slice_set self.old.brought symbol (Some by) }
     {
