@@ -1,10 +1,15 @@
 // Chosen chains by rounds: round k finds the pairs of symbols whose shortest chain has k steps.
 ghost use Rattle.std.specs.Prelude.{◌≡◌, ℕ, suc, ◌<◌, ◌≤◌, false, ◌&&◌, [], map, if◌then◌else◌, Some, None, ◌==◌, nat_eq, slice_index_or};
-ghost use Rattle.grammar.specs.Binarised.{Binarised, Bounded};
+ghost use Rattle.grammar.specs.Binarised.{Binarised};
+ghost use Rattle.conversion.specs.Binarised.{grammar_of};
+ghost use Rattle.conversion.specs.Held.{Nullables};
 ghost use Rattle.conversion.specs.Linked.{AfterSteps, ChosenChains, EndsBelow, all_steps, extended, leads, link, shorter};
 ghost use Rattle.conversion.specs.Views.{step_of};
 
+use crate::binarised::BinarisedRules;
 use crate::chain::{Chain, Chains, UnitStep};
+use crate::nullable::Nullable;
+use crate::steps::unit_steps;
 
 impl Chains {
     // From each symbol to itself, and nowhere else.
@@ -84,12 +89,15 @@ impl Chains {
 }
 
 // The chosen chains of unit steps. A shortest chain passes no symbol twice, so it has fewer than 128 steps.
-pub(crate) fn chains(list: &[UnitStep]) -> Chains
-    ensures { (B : Binarised) → B.symbols ≤ 128 → Bounded B → EndsBelow B → map step_of list.now ≡ all_steps B → ChosenChains B result }
+pub(crate) fn chains(binarised: &BinarisedRules, nullable: &Nullable) -> Chains
+    requires nullables { Nullables (grammar_of binarised.now) nullable.now }
+    requires ends { EndsBelow (grammar_of binarised.now) }
+    ensures { ChosenChains (grammar_of binarised.now) result }
 {
+    let list = unit_steps(binarised, nullable);
     let mut out = Chains::start();
     for steps in 1..128 {
-        if !out.round(list, steps) {
+        if !out.round(&list, steps) {
             break;
         }
     }
