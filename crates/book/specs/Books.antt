@@ -30,7 +30,7 @@ closed_fits test b = table_fits test b.table.patterns.now
 
 -- the strict rules that a closed book has
 abbrev pub closed_strict : {A E P : Type 0} {G : Ghosts A E P} → ClosedBook A E P G → List StrictFormRule
-closed_strict b = map strict_rule_of (take b.form.strict.count b.form.strict.rules)
+closed_strict b = map strict_rule_of b.form.strict.rules.items
 
 -- what the strict rules of a book are: those of the definition, in their order; the list of the strict rules, and the only one; and
 -- for any test of events, a grammar in strict Chomsky form whose language is the book's without the empty trace
