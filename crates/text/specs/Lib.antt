@@ -6,4 +6,5 @@ pub mod Lines
 pub mod Numbers
 pub mod Outcomes
 pub mod Stages
+pub mod Turns
 pub mod Words
