@@ -1,16 +1,25 @@
 -- The lines and the words of a text, one by one.
-use Rattle.std.specs.Prelude.{◌≡◌, ℕ, ◌+◌, ◌<◌, ◌≤◌, true, [], ◌∷◌, length, take, drop, Option, MatchOption, slice_index}
-use Rattle.text.specs.Words.{parts, piece, words, IsWord, IsLineEnd}
+use Rattle.std.specs.Prelude.{◌≡◌, ℕ, ◌+◌, ◌<◌, ◌≤◌, true, List, [], ◌∷◌, length, take, drop, Option, MatchOption, slice_index}
+use Rattle.text.specs.Outcomes.{Outcome, line}
+use Rattle.text.specs.Words.{Piece, parts, piece, words, IsWord, IsLineEnd}
 use Rattle.text.specs.declared.lines.Line.{Line}
 use Rattle.text.specs.declared.lines.Lines.{Lines}
 use Rattle.text.specs.declared.words.Word.{Word}
 use Rattle.text.specs.declared.words.Words.{Words}
 
+-- the words of a line
+abbrev pub words_of : Line → List Piece
+words_of l = words l.from (drop l.from l.text.now)
+
+-- what they give
+abbrev pub outcome_of : Line → Outcome
+outcome_of l = line (length l.text.now) (words_of l)
+
 -- the next line is the text from the place reached up to the line's end, and the line after it begins past that
 pub record IsNextLine (was : Lines) (l : Line) (is : Lines) : Type 0 where
   pub some : was.from < length was.text.now
   pub begins : l.from ≡ was.from
-  pub ends : IsLineEnd was.text.now was.from (length l.text.now)
+  pub ends : IsLineEnd was.text.now l.from (length l.text.now)
   pub part : l.text.now ≡ take (length l.text.now) was.text.now
   pub past : is.from ≡ length l.text.now + 1
   pub same : is.text.now ≡ was.text.now

@@ -2,8 +2,7 @@
 ghost use Rattle.std.specs.Prelude.{◌≡◌, ◌-◌, ◌≤◌, length, drop};
 ghost use Rattle.std.specs.Iterator.{at_most};
 ghost use Rattle.text.specs.Lines.{LineSays, NothingElse, Limits};
-ghost use Rattle.text.specs.Outcomes.{line, line_said, in_nine};
-ghost use Rattle.text.specs.Words.{words};
+ghost use Rattle.text.specs.Outcomes.{line_said, in_nine};
 
 use crate::fault::LineFault;
 use crate::reader::rule_line;
@@ -19,6 +18,8 @@ pub struct Line<'t> {
 }
 
 impl<'t> Line<'t> {
+    ghost use Rattle.text.specs.Turns.{outcome_of};
+
     // Its bytes, from its beginning to its end.
     pub fn bytes(self) -> &'t [u8]
         ensures { result.now ≡ drop self.entry.from self.entry.text.now }
@@ -40,7 +41,7 @@ impl<'t> Line<'t> {
         ensures says { LineSays self.entry.text.now self.entry.from (length self.entry.text.now) result }
         ensures only { NothingElse self.entry.text.now self.entry.from (length self.entry.text.now) result }
         ensures limits { Limits (length self.entry.text.now) result }
-        ensures means { line_said result ≡ in_nine (line (length self.entry.text.now) (words self.entry.from (drop self.entry.from self.entry.text.now))) }
+        ensures means { line_said result ≡ in_nine (outcome_of self.entry) }
     {
         rule_line(self.text, self.from, self.text.len())
     }
