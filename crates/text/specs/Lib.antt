@@ -1,5 +1,4 @@
 pub mod Faults
-pub mod Fixed
 pub mod Kinds
 pub mod Limits
 pub mod Lines
