@@ -1,4 +1,4 @@
-use Rattle.std.proofs.Common.{◌≤◌, not, length, arith}
+use Rattle.std.proofs.Common.{not, length, arith}
 use Rattle.std.proofs.lemmas.Bool.{eqb-true, eqb-false, not-true, not-false}
 use Rattle.text.specs.Words.{ends_line}
 use Rattle.text.proofs.Wording.{Run, run}
