@@ -1,6 +1,7 @@
 -- The steps by which binarised rules come to be those of a book.
-use Rattle.std.proofs.Common.{◌≡◌, ℕ, ◌+◌, ◌<◌, ◌≤◌, List, [], ◌∷◌, ◌++◌, map, length, get_or, take, drop, sym, ap, ◌∙◌, subst, ap₂, add-one, arith}
+use Rattle.std.proofs.Common.{◌≡◌, ℕ, ◌+◌, ◌<◌, ◌≤◌, List, [], ◌∷◌, ◌++◌, map, length, get_or, drop, refl, sym, ap, ◌∙◌, subst, ap₂, add-one, arith}
 use Rattle.std.proofs.lemmas.List.{drop_more, drop_all, append_assoc, append-nil, length-append, length-map, get_or-map, map_push}
+use Rattle.arrayvec.specs.ArrayVec.{array_vec_len}
 use Rattle.grammar.specs.Lists.{each, below}
 use Rattle.grammar.proofs.Lists.{length_count_up}
 use Rattle.grammar.specs.Binarised.{Rule, rule, binary, Binarised}
@@ -11,19 +12,19 @@ use Rattle.grammar.proofs.Tails.{tails_next, tails_whole, tails_within}
 use Rattle.grammar.specs.Productions.{all_tails}
 use Rattle.conversion.specs.declared.production.Production.{Production}
 use Rattle.conversion.specs.declared.right.Right.TheVariants.{Binary, Terminal}
+use Rattle.conversion.specs.declared.right.BinarisedRule.{BinarisedRule}
 use Rattle.conversion.specs.declared.binarised.BinarisedRules.{BinarisedRules}
 use Rattle.conversion.specs.Rows.{production_of}
 use Rattle.conversion.specs.Views.{rule_of, binarised_of}
 use Rattle.conversion.specs.Binarised.{rows_book, rules_held, Added, Pushed, Tailed, Room, Divided}
 use Rattle.conversion.proofs.Each.{below_more}
-use Rattle.conversion.proofs.Pushes.{held_length}
 
 -- the count is the number of rules
 
-pub rules_count : (b : BinarisedRules) → length (rules_held b) ≡ b.count
-rules_count b = held_length rule_of b.rules b.count (omega (arith, b.sized, b.few))
+pub rules_count : (b : BinarisedRules) → length (rules_held b) ≡ array_vec_len b.rules
+rules_count b = length-map b.rules.items rule_of
 
-pub added_count : (was is : BinarisedRules) (more : List Rule) (k : ℕ) → Added was is more k → is.count ≡ was.count + length more
+pub added_count : (was is : BinarisedRules) (more : List Rule) (k : ℕ) → Added was is more k → array_vec_len is.rules ≡ array_vec_len was.rules + length more
 added_count was is more k a = omega (arith, rules_count was, rules_count is, ap length a.0, length-append (rules_held was) more)
 
 -- the pairs of a right side, from place k on
@@ -82,16 +83,16 @@ production_at rows T n p h e = production_in rows T n p h ∙ ap production_of (
 abbrev pub Upto : Book → ℕ → BinarisedRules → Type 0
 Upto W n b = (rules_held b ≡ each (binarise_production W) (below n)) × (b.symbols ≡ first_tail W n)
 
-pub upto_none : (W : Book) (b : BinarisedRules) → rules_held b ≡ [] → b.symbols ≡ 64 → Upto W 0 b
+pub upto_none : (W : Book) (rules : List BinarisedRule) → rules ≡ [] → (map rule_of rules ≡ each (binarise_production W) (below 0)) × (64 ≡ first_tail W 0)
 unfolding tails_before
-upto_none W b e s = (e, s)
+upto_none W rules e = (ap (map rule_of) e, refl)
 
 pub upto_room : (rows : List Production) (T n : ℕ) (b : BinarisedRules) (p : Production) → length rows ≤ 64 → all_tails (map production_of rows) ≤ 64
     → n < length rows → p ≡ get_or rows n p → Upto (rows_book rows T) n b → Room b (production_of p).right
 upto_room rows T n b p few most h e u =
     let W = rows_book rows T in
     let right : tails (right_of W n) ≡ tails (production_of p).right = ap (λ q. tails q.right) (production_at rows T n p h e) in
-    let count : b.count ≡ n + tails_before W n = sym (rules_count b) ∙ ap length u.0 ∙ upto_length W n in
+    let count : array_vec_len b.rules ≡ n + tails_before W n = sym (rules_count b) ∙ ap length u.0 ∙ upto_length W n in
     let sum = tails_within W n (omega (arith, length-map rows production_of)) in
     (omega (arith, u.1), omega (arith, u.1))
 
@@ -121,7 +122,7 @@ beyond_none rows T n b e u =
     (u.0 ∙ ap (λ m. each (binarise_production W) (below m)) all ∙ sym (append-nil (each (binarise_production W) (below (length W.productions)))), u.1 ∙ ap (first_tail W) all)
 
 pub beyond_count : (rows : List Production) (T t : ℕ) (b : BinarisedRules) → length rows ≤ 64 → all_tails (map production_of rows) ≤ 64 → t < 32
-    → Beyond (rows_book rows T) t b → b.count < 160
+    → Beyond (rows_book rows T) t b → array_vec_len b.rules < 160
 beyond_count rows T t b few most h e =
     let W = rows_book rows T in
     let n = length W.productions in
@@ -142,6 +143,6 @@ beyond_all W t b e h =
     (subst (λ m. rules_held b ≡ each (binarise_production W) (below (length W.productions)) ++ map terminal_rule (below m)) e h.0, h.1 ∙ ap (λ m. 64 + m) (tails_whole W))
 
 -- the rules and their number of symbols are the split grammar
-pub split_is : (W : Book) (b : BinarisedRules) → rules_held b ≡ binarised_rules W → b.symbols ≡ (binarised W).symbols → binarised_of (take b.count b.rules) b.symbols ≡ binarised W
+pub split_is : (W : Book) (b : BinarisedRules) → rules_held b ≡ binarised_rules W → b.symbols ≡ (binarised W).symbols → binarised_of b.rules.items b.symbols ≡ binarised W
 unfolding binarised
 split_is W b r s = ap₂ {C = Binarised} (λ rs n. record { rules = rs; symbols = n }) r s

@@ -1,5 +1,6 @@
--- Binarised rules in an array, as they come.
-use Rattle.std.specs.Prelude.{◌≡◌, ℕ, ◌+◌, ◌<◌, ◌≤◌, List, [], ◌∷◌, ◌++◌, map, take}
+-- Binarised rules as they come.
+use Rattle.std.specs.Prelude.{◌≡◌, ℕ, ◌+◌, ◌<◌, ◌≤◌, List, [], ◌∷◌, ◌++◌, map}
+use Rattle.arrayvec.specs.ArrayVec.{array_vec_len}
 use Rattle.grammar.specs.Binarised.{Rule, rule}
 use Rattle.grammar.specs.Productions.{Book, tails}
 use Rattle.grammar.specs.Binarise.{binarise_right, one_item as single_right}
@@ -13,9 +14,9 @@ use Rattle.conversion.specs.Views.{right_side_of, rule_of}
 abbrev pub rows_book : List Production → ℕ → Book
 rows_book rows T = record { productions = map production_of rows; patterns = T }
 
--- the binarised rules in the array
+-- the binarised rules that are held
 abbrev pub rules_held : BinarisedRules → List Rule
-rules_held b = map rule_of (take b.count b.rules)
+rules_held b = map rule_of b.rules.items
 
 -- these rules have come at the end, and so many symbols
 abbrev pub Added : BinarisedRules → BinarisedRules → List Rule → ℕ → Type 0
@@ -31,7 +32,7 @@ Tailed was is z = Added was is [] 1 × (z ≡ was.symbols)
 
 -- there is room for the rules of a right side and its tails
 abbrev pub Room : BinarisedRules → List ℕ → Type 0
-Room b items = (b.count + tails items < 160) × (b.symbols + tails items ≤ 128)
+Room b items = (array_vec_len b.rules + tails items < 160) × (b.symbols + tails items ≤ 128)
 
 -- the binarised rules of a right side have come, its tails the next symbols
 abbrev pub Divided : BinarisedRules → BinarisedRules → ℕ → ℕ → List ℕ → Type 0

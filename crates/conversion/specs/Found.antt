@@ -23,9 +23,9 @@ Reached B c = (x y : ℕ) → x < 128 → y < 128 → linked c x y ≡ within B 
 abbrev pub proper_right : Right → Bool
 proper_right r = proper (right_side_of r)
 
--- the array holds the first 1,024 of the list, and says whether these are all
+-- they are the first 1,024 of the list, and say whether these are all
 abbrev pub Holds : List StrictFormRule → StrictRules → Type 0
-Holds l s = (map strict_rule_of (take s.count s.rules) ≡ take 1024 l) × (s.complete ≡ nat_le (length l) 1024)
+Holds l s = (map strict_rule_of s.rules.items ≡ take 1024 l) × (s.complete ≡ nat_le (length l) 1024)
 
 -- whatever list it held, it holds that with these at the end
 abbrev pub Appends : StrictRules → StrictRules → List StrictFormRule → Type 0
@@ -39,6 +39,6 @@ by_end rules x y = map (strict_rule x y) (those (λ (o : OwnRule). proper o.1) (
 unfoldable pub by_ends : List BinarisedRule → Chains → ℕ → ℕ → List StrictFormRule
 by_ends rules c x n = each (by_end rules x) (those (linked c x) (below n))
 
--- the array holds the strict rules of any grammar of these rules whose chains the table has
+-- these are the strict rules of any grammar of these rules whose chains the table has
 abbrev pub StrictIn : List BinarisedRule → Chains → StrictRules → Type 0
 StrictIn rules c s = (S : ℕ) → S ≤ 128 → Bounded (binarised_of rules S) → Reached (binarised_of rules S) c → Holds (strict_rules (binarised_of rules S)) s

@@ -1,5 +1,6 @@
 // Binarised rules from productions.
-ghost use Rattle.std.specs.Prelude.{◌≡◌, ◌<◌, ◌≤◌, [], map, length, take};
+ghost use Rattle.std.specs.Prelude.{◌≡◌, ◌<◌, ◌≤◌, map, length};
+ghost use Rattle.arrayvec.specs.ArrayVec.{array_vec_len};
 ghost use Rattle.grammar.specs.Productions.{all_tails};
 ghost use Rattle.grammar.specs.Binarise.{binarised_rules, binarised};
 ghost use Rattle.conversion.specs.Rows.{production_of};
@@ -8,50 +9,19 @@ ghost use Rattle.conversion.specs.Binarised.{rows_book, rules_held, Pushed, Tail
 use crate::binarised::BinarisedRules;
 use crate::production::Production;
 use crate::right::{BinarisedRule, Right};
+use arrayvec::ArrayVec;
 
 impl BinarisedRules {
-    // No rule, and no tail.
-    fn none() -> BinarisedRules
-        ensures { (rules_held result ≡ []) × (result.symbols ≡ 64) }
-    {
-        let rule = BinarisedRule {
-            left: 0,
-            number: 0,
-            right: Right::Empty,
-        };
-        BinarisedRules {
-            rules: [rule; 160],
-            count: 0,
-            symbols: 64,
-        }
-    }
-
-    // The rules, in the order of their productions.
-    pub(crate) fn list(&self) -> &[BinarisedRule]
-        ensures { result.now ≡ take self.now.count self.now.rules }
-    {
-        &self.rules[0..self.count]
-    }
-
-    // The number of symbols: 64 and the tails.
-    pub(crate) fn symbols(&self) -> usize
-        ensures { (result ≡ self.now.symbols) × ((result ≤ 128) × (64 ≤ result)) }
-    {
-        self.symbols
-    }
-
     // One rule more at the end.
     fn push(&mut self, left: u8, number: u8, right: Right)
-        requires { self.old.count < 160 }
+        requires { array_vec_len self.old.rules < 160 }
         ensures { Pushed self.old self.new left number right }
     {
-        let at = self.count;
-        self.rules[at] = BinarisedRule {
+        self.rules.push(BinarisedRule {
             left,
             number,
             right,
-        };
-        self.count = at + 1;
+        });
     }
 
     // The next tail.
@@ -113,7 +83,10 @@ pub(crate) fn binarise(productions: &[Production], patterns: u8) -> BinarisedRul
     ensures rules { rules_held result ≡ binarised_rules (rows_book productions.now patterns) }
     ensures symbols { result.symbols ≡ (binarised (rows_book productions.now patterns)).symbols }
 {
-    let mut out = BinarisedRules::none();
+    let mut out = BinarisedRules {
+        rules: ArrayVec::new(),
+        symbols: 64,
+    };
     for (n, production) in productions.iter().enumerate() {
         out.production(n as u8, production);
     }

@@ -1,5 +1,5 @@
 // Chosen chains by rounds: round k finds the pairs of symbols whose shortest chain has k steps.
-ghost use Rattle.std.specs.Prelude.{◌≡◌, ℕ, suc, ◌<◌, ◌≤◌, false, ◌&&◌, [], map, replicate, if◌then◌else◌, ◌==◌, nat_eq, slice_index_or};
+ghost use Rattle.std.specs.Prelude.{◌≡◌, ℕ, suc, ◌<◌, ◌≤◌, false, ◌&&◌, [], map, if◌then◌else◌, Some, None, ◌==◌, nat_eq, slice_index_or};
 ghost use Rattle.grammar.specs.Binarised.{Binarised, Bounded};
 ghost use Rattle.conversion.specs.Linked.{AfterSteps, ChosenChains, EndsBelow, all_steps, extended, leads, link, shorter};
 ghost use Rattle.conversion.specs.Views.{step_of};
@@ -7,41 +7,31 @@ ghost use Rattle.conversion.specs.Views.{step_of};
 use crate::chain::{Chain, Chains, UnitStep};
 
 impl Chains {
-    fn none() -> Chains
-        ensures { result.links ≡ replicate 128 (replicate 128 Chain.Absent) }
-    {
-        Chains {
-            links: [[Chain::Absent; 128]; 128],
-        }
-    }
-
     // From each symbol to itself, and nowhere else.
     fn start() -> Chains
-        ensures { (x y : ℕ) → x < 128 → y < 128 → link result x y ≡ (if nat_eq x y then Chain.Empty else Chain.Absent) }
+        ensures { (x y : ℕ) → x < 128 → y < 128 → link result x y ≡ (if nat_eq x y then Some Chain.Empty else None) }
     {
-        let mut out = Chains::none();
+        let mut out = Chains {
+            links: [[None; 128]; 128],
+        };
         for x in 0..128 {
             out.put(x, x, Chain::Empty);
         }
         out
     }
 
-    // The chosen chain from one symbol to another.
-    pub(crate) fn get(&self, from: u8, to: u8) -> Chain
-        ensures { result ≡ slice_index_or (slice_index_or self.now.links from []) to Chain.Absent }
+    // The chosen chain from one symbol to another, if one leads there.
+    pub(crate) fn get(&self, from: u8, to: u8) -> Option<Chain>
+        ensures { result ≡ slice_index_or (slice_index_or self.now.links from []) to None }
     {
-        if from < 128 && to < 128 {
-            self.links[from as usize][to as usize]
-        } else {
-            Chain::Absent
-        }
+        *self.links.get(from as usize)?.get(to as usize)?
     }
 
     fn put(&mut self, from: u8, to: u8, chain: Chain)
-        ensures { (x y : ℕ) → x < 128 → y < 128 → link self.new x y ≡ (if nat_eq x from && y == to then chain else link self.old x y) }
+        ensures { (x y : ℕ) → x < 128 → y < 128 → link self.new x y ≡ (if nat_eq x from && y == to then Some chain else link self.old x y) }
     {
         if from < 128 && to < 128 {
-            self.links[from as usize][to as usize] = chain;
+            self.links[from as usize][to as usize] = Some(chain);
         }
     }
 
@@ -49,7 +39,7 @@ impl Chains {
     pub(crate) fn reaches(&self, from: u8, to: u8) -> bool
         ensures { result ≡ leads (link self.now from to) }
     {
-        !matches!(self.get(from, to), Chain::Absent)
+        self.get(from, to).is_some()
     }
 
     // Whether a chain of fewer steps than these leads there.
@@ -57,9 +47,9 @@ impl Chains {
         ensures { result ≡ shorter steps (link self.now from to) }
     {
         match self.get(from, to) {
-            Chain::Absent => false,
-            Chain::Empty => steps > 0,
-            Chain::Steps(k, _) => k < steps,
+            None => false,
+            Some(Chain::Empty) => steps > 0,
+            Some(Chain::Steps(k, _)) => k < steps,
         }
     }
 

@@ -1,5 +1,5 @@
 // Nullable symbols by rounds: a round looks only at what was held before it.
-ghost use Rattle.std.specs.Prelude.{◌≡◌, ℕ, suc, ◌<◌, ◌≤◌, false, replicate, is_some, Some, None, slice_index_or, slice_set};
+ghost use Rattle.std.specs.Prelude.{◌≡◌, ℕ, suc, ◌<◌, ◌≤◌, false, is_some, Some, None, slice_index_or, slice_set};
 ghost use Rattle.grammar.specs.Nullable.{ready as made_of};
 ghost use Rattle.grammar.specs.Binarised.{Bounded};
 ghost use Rattle.conversion.specs.Held.{sooner, AfterRounds, Nullables};
@@ -9,23 +9,11 @@ use crate::nullable::{Brought, Nullable};
 use crate::right::{BinarisedRule, Right};
 
 impl Nullable {
-    fn none() -> Nullable
-        ensures { result.brought ≡ replicate 128 None }
-    {
-        Nullable {
-            brought: [None; 128],
-        }
-    }
-
     // What brought a symbol in, if anything did.
     pub(crate) fn get(&self, symbol: u8) -> Option<Brought>
         ensures { result ≡ slice_index_or self.now.brought symbol None }
     {
-        if symbol < 128 {
-            self.brought[symbol as usize]
-        } else {
-            None
-        }
+        *self.brought.get(symbol as usize)?
     }
 
     // Whether the symbol derives nothing.
@@ -39,10 +27,7 @@ impl Nullable {
     fn before(&self, symbol: u8, round: u8) -> bool
         ensures { result ≡ sooner round (slice_index_or self.now.brought symbol None) }
     {
-        match self.get(symbol) {
-            Some(b) => b.round < round,
-            None => false,
-        }
+        self.get(symbol).is_some_and(|b| b.round < round)
     }
 
     // Whether a right side is made of symbols of earlier rounds alone.
@@ -92,7 +77,9 @@ impl Nullable {
 pub(crate) fn nullable(rules: &[BinarisedRule]) -> Nullable
     ensures { (S : ℕ) → S ≤ 128 → Bounded (binarised_of rules.now S) → Nullables (binarised_of rules.now S) result }
 {
-    let mut out = Nullable::none();
+    let mut out = Nullable {
+        brought: [None; 128],
+    };
     for round in 0..128 {
         if !out.round(rules, round) {
             break;

@@ -4,7 +4,7 @@ use Rattle.conversion.proofs.Divided.{upto_none, upto_room, upto_more, beyond_no
 use Rattle.conversion.proofs.binarise.binarise.Goals as goal
 
 pub loop-n-init : goal.loop-n-init
-loop-n-init c = upto_none (rows_book c.args.productions.now c.args.patterns) c.none-out.result c.none-out.ensures.0 c.none-out.ensures.1
+loop-n-init c = upto_none (rows_book c.args.productions.now c.args.patterns) c.new.result.items c.new.ensures
 
 pub production-requires : goal.production-requires
 production-requires c =

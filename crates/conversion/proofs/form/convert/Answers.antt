@@ -27,8 +27,8 @@ returns c =
     record {
       rules = c.binarise-binarised.ensures.rules;
       symbols = c.binarise-binarised.ensures.symbols;
-      nullables = subst (λ (rs : List BinarisedRule). (T : ℕ) → T ≤ 128 → Bounded (binarised_of rs T) → Nullables (binarised_of rs T) n) c.list.ensures c.nullable-nullable.ensures;
-      steps = subst (λ (rs : List BinarisedRule). (T : ℕ) → Nullables (binarised_of rs T) n → steps_of u ≡ all_steps (binarised_of rs T)) c.list-2.ensures c.unit_steps-steps.ensures;
-      chains = subst (λ (l : List UnitStep). (B : Binarised) → B.symbols ≤ 128 → Bounded B → EndsBelow B → map step_of l ≡ all_steps B → ChosenChains B t) c.list-3.ensures c.chains-chains.ensures;
-      strict = subst (λ (rs : List BinarisedRule). StrictIn rs t s) c.list-4.ensures c.all-strict.ensures;
+      nullables = subst (λ (rs : List BinarisedRule). (T : ℕ) → T ≤ 128 → Bounded (binarised_of rs T) → Nullables (binarised_of rs T) n) c.deref.ensures.0 c.nullable-nullable.ensures;
+      steps = subst (λ (rs : List BinarisedRule). (T : ℕ) → Nullables (binarised_of rs T) n → steps_of u ≡ all_steps (binarised_of rs T)) c.deref-2.ensures.0 c.unit_steps-steps.ensures;
+      chains = subst (λ (l : List UnitStep). (B : Binarised) → B.symbols ≤ 128 → Bounded B → EndsBelow B → map step_of l ≡ all_steps B → ChosenChains B t) c.deref-3.ensures.0 c.chains-chains.ensures;
+      strict = subst (λ (rs : List BinarisedRule). StrictIn rs t s) c.deref-4.ensures.0 c.all-strict.ensures;
     }

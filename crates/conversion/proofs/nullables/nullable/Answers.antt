@@ -5,7 +5,7 @@ use Rattle.conversion.proofs.Bringing.{rounds_start, rounds_all, rounds_rest}
 use Rattle.conversion.proofs.nullables.nullable.Goals as goal
 
 pub loop-round-init : goal.loop-round-init
-loop-round-init c S l b = rounds_start (binarised_of c.args.rules.now S) c.none-out.result c.none-out.ensures
+loop-round-init c S l b = rounds_start (binarised_of c.args.rules.now S)
 
 pub loop-round-preserved : goal.loop-round-preserved
 loop-round-preserved c S l b =

@@ -22,8 +22,8 @@ loop-rule-preserved c =
     let i = c.loop-rule.rule-index in
     let d : BinarisedRule = record { left = 0; number = 0; right = Empty } in
     let b : ℕ → Bool = λ x. is_some (get_or c.args.nullable.now.brought x None) in (
-      each_turn (by_rule b) rule_of rules i d (steps_of c.loop-rule.out) (steps_of c.rule.new.self) c.loop-rule-test.true c.rule.ensures.more c.loop-rule.invariant.0,
-      omega (arith, c.rule.ensures.few, c.loop-rule.invariant.1),
+      each_turn (by_rule b) rule_of rules i d (steps_of c.loop-rule.out) (steps_of c.steps.new.out) c.loop-rule-test.true c.steps.ensures.more c.loop-rule.invariant.0,
+      omega (arith, c.steps.ensures.few, c.loop-rule.invariant.1),
     )
 
 pub returns : goal.returns

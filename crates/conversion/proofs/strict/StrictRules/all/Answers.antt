@@ -1,12 +1,13 @@
 use Rattle.std.proofs.Common.{◌≡◌, List, sym, ap, ◌∙◌, subst, arith}
 use Rattle.grammar.specs.Strict.{StrictFormRule}
+use Rattle.conversion.specs.Views.{strict_rule_of}
 use Rattle.conversion.specs.Found.{Holds}
-use Rattle.conversion.proofs.Found.{by_symbols, by_symbols_none, by_symbols_more, strict_rules_found}
+use Rattle.conversion.proofs.Found.{found_none, by_symbols, by_symbols_none, by_symbols_more, strict_rules_found}
 use Rattle.conversion.proofs.strict.StrictRules.all.Goals as goal
 
 pub loop-symbol-init : goal.loop-symbol-init
 loop-symbol-init c =
-    subst (λ (l : List StrictFormRule). Holds l c.none-out.result) (sym (by_symbols_none c.args.rules.now c.args.chains.now 128)) c.none-out.ensures
+    found_none strict_rule_of c.new.result.items (by_symbols c.args.rules.now c.args.chains.now 128 0) c.new.ensures (by_symbols_none c.args.rules.now c.args.chains.now 128)
 
 pub loop-symbol-preserved : goal.loop-symbol-preserved
 loop-symbol-preserved c =
