@@ -64,10 +64,10 @@ impl<'p, A: Alphabet> OpenBook<'p, A> {
 
     // Ends the open book: a closed book that holds the same rules, with their strict form.
     pub fn close(self) -> ClosedBook<'p, A>
-        ensures held { closed_held result ≡ open_held self.exit }
+        ensures held { closed_held result ≡ open_held self.entry }
         ensures strict { StrictRulesAre A.Event (closed_book result) (closed_strict result) }
-        ensures table { result.table ≡ self.exit.table }
-        ensures runs { Leaves (pattern_count self.exit.table.patterns.now) (open_held self.exit) (closed_held result) }
+        ensures table { result.table ≡ self.entry.table }
+        ensures runs { Leaves (pattern_count self.entry.table.patterns.now) (open_held self.entry) (closed_held result) }
     {
         let OpenBook { table, rules } = self;
         let converted = rules.convert();
@@ -90,18 +90,14 @@ impl<'p, A: Alphabet> ClosedBook<'p, A> {
     pub fn rule_count(&self) -> usize
         ensures { result ≡ length (closed_held self.now) }
     {
-        self.converted.rules.count
+        self.converted.rules.rows.len()
     }
 
     // The rule of that number, if there is one.
     pub fn rule(&self, number: usize) -> Option<Production>
         ensures { At production_of (closed_held self.now) number result }
     {
-        if number < self.rule_count() {
-            Some(self.converted.rules.rows[number])
-        } else {
-            None
-        }
+        self.converted.rules.rows.get(number).copied()
     }
 
     // How many strict rules there are.
@@ -115,12 +111,7 @@ impl<'p, A: Alphabet> ClosedBook<'p, A> {
     pub fn strict_rule(&self, place: usize) -> Option<StrictRule>
         ensures { At strict_rule_of (strict_rules (binarised (closed_book self.now))) place result }
     {
-        let list = self.converted.strict();
-        if place < list.len() {
-            Some(list[place])
-        } else {
-            None
-        }
+        self.converted.strict().get(place).copied()
     }
 
     // The rules held with their strict form, for charts.
