@@ -1,14 +1,14 @@
 -- Binarised rules as they come.
 use Rattle.std.specs.Prelude.{◌≡◌, ℕ, ◌+◌, ◌<◌, ◌≤◌, List, [], ◌∷◌, ◌++◌, map}
 use Rattle.arrayvec.specs.ArrayVec.{array_vec_len}
-use Rattle.grammar.specs.Binarised.{Rule, rule}
+use Rattle.grammar.specs.Binarised.{Rule, rule, Binarised}
 use Rattle.grammar.specs.Productions.{Book, tails}
 use Rattle.grammar.specs.Binarise.{binarise_right, one_item as single_right}
 use Rattle.conversion.specs.declared.production.Production.{Production}
 use Rattle.conversion.specs.declared.right.Right.{Right}
 use Rattle.conversion.specs.declared.binarised.BinarisedRules.{BinarisedRules}
 use Rattle.conversion.specs.Rows.{production_of}
-use Rattle.conversion.specs.Views.{right_side_of, rule_of}
+use Rattle.conversion.specs.Views.{right_side_of, rule_of, binarised_of}
 
 -- the book of rows and a number of patterns
 abbrev pub rows_book : List Production → ℕ → Book
@@ -17,6 +17,10 @@ rows_book rows T = record { productions = map production_of rows; patterns = T }
 -- the binarised rules that are held
 abbrev pub rules_held : BinarisedRules → List Rule
 rules_held b = map rule_of b.rules.items
+
+-- the grammar that they are
+abbrev pub grammar_of : BinarisedRules → Binarised
+grammar_of b = binarised_of b.rules.items b.symbols
 
 -- these rules have come at the end, and so many symbols
 abbrev pub Added : BinarisedRules → BinarisedRules → List Rule → ℕ → Type 0

@@ -1,15 +1,15 @@
 -- Strict rules as they are found, and the table of chains by which they are found.
-use Rattle.std.specs.Prelude.{◌≡◌, ℕ, ◌<◌, ◌≤◌, Bool, List, ◌++◌, map, length, take, nat_le}
+use Rattle.std.specs.Prelude.{◌≡◌, ℕ, ◌<◌, Bool, List, ◌++◌, map, length, take, nat_le}
 use Rattle.grammar.specs.Lists.{those, each, below}
-use Rattle.grammar.specs.Binarised.{Binarised, OwnRule, rules_in, Bounded}
+use Rattle.grammar.specs.Binarised.{Binarised, OwnRule, rules_in}
 use Rattle.grammar.specs.Chains.{within}
-use Rattle.grammar.specs.Strict.{StrictFormRule, proper, strict_rule, strict_rules}
+use Rattle.grammar.specs.Strict.{StrictFormRule, proper, strict_rule}
 use Rattle.conversion.specs.declared.right.Right.{Right}
 use Rattle.conversion.specs.declared.right.BinarisedRule.{BinarisedRule}
 use Rattle.conversion.specs.declared.chain.Chains.{Chains}
 use Rattle.conversion.specs.declared.strict.StrictRules.{StrictRules}
 use Rattle.conversion.specs.Linked.{link, leads}
-use Rattle.conversion.specs.Views.{right_side_of, rule_of, binarised_of, strict_rule_of}
+use Rattle.conversion.specs.Views.{right_side_of, rule_of, strict_rule_of}
 
 -- the table has a chain from x to y
 abbrev pub linked : Chains → ℕ → ℕ → Bool
@@ -38,7 +38,3 @@ by_end rules x y = map (strict_rule x y) (those (λ (o : OwnRule). proper o.1) (
 -- the strict rules of x by the rules of the first n symbols, as far as the table has a chain there
 unfoldable pub by_ends : List BinarisedRule → Chains → ℕ → ℕ → List StrictFormRule
 by_ends rules c x n = each (by_end rules x) (those (linked c x) (below n))
-
--- these are the strict rules of any grammar of these rules whose chains the table has
-abbrev pub StrictIn : List BinarisedRule → Chains → StrictRules → Type 0
-StrictIn rules c s = (S : ℕ) → S ≤ 128 → Bounded (binarised_of rules S) → Reached (binarised_of rules S) c → Holds (strict_rules (binarised_of rules S)) s

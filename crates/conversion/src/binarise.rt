@@ -1,10 +1,10 @@
 // Binarised rules from productions.
-ghost use Rattle.std.specs.Prelude.{◌≡◌, ◌<◌, ◌≤◌, map, length};
+ghost use Rattle.std.specs.Prelude.{◌≡◌, ◌<◌, ◌≤◌, length};
 ghost use Rattle.arrayvec.specs.ArrayVec.{array_vec_len};
-ghost use Rattle.grammar.specs.Productions.{all_tails};
-ghost use Rattle.grammar.specs.Binarise.{binarised_rules, binarised};
+ghost use Rattle.grammar.specs.Productions.{Sound};
+ghost use Rattle.grammar.specs.Binarise.{binarised};
 ghost use Rattle.conversion.specs.Rows.{production_of};
-ghost use Rattle.conversion.specs.Binarised.{rows_book, rules_held, Pushed, Tailed, Room, Divided, Single};
+ghost use Rattle.conversion.specs.Binarised.{rows_book, grammar_of, Pushed, Tailed, Room, Divided, Single};
 
 use crate::binarised::BinarisedRules;
 use crate::production::Production;
@@ -14,7 +14,8 @@ use arrayvec::ArrayVec;
 impl BinarisedRules {
     // One rule more at the end.
     fn push(&mut self, left: u8, number: u8, right: Right)
-        requires { array_vec_len self.old.rules < 160 }
+        requires room { array_vec_len self.old.rules < 160 }
+        requires bounded { left < self.old.symbols }
         ensures { Pushed self.old self.new left number right }
     {
         self.rules.push(BinarisedRule {
@@ -37,14 +38,16 @@ impl BinarisedRules {
     // The rules of a right side of two items or more: each pair is an item and the tail that stands for the items after it, the
     // last one the last two items.
     fn pairs(&mut self, head: u8, number: u8, items: &[u8])
-        requires { (2 ≤ length items.now) × (Room self.old items.now) }
+        requires several { 2 ≤ length items.now }
+        requires room { Room self.old items.now }
+        requires head { head < 64 }
         ensures { Divided self.old self.new head number items.now }
     {
         let last = items.len() - 2;
         let mut left = head;
-        for k in 0..last {
+        for item in &items[..last] {
             let tail = self.tail();
-            self.push(left, number, Right::Binary(items[k], tail));
+            self.push(left, number, Right::Binary(*item, tail));
             left = tail;
         }
         self.push(left, number, Right::Binary(items[last], items[last + 1]));
@@ -52,7 +55,8 @@ impl BinarisedRules {
 
     // The rules of one production.
     fn production(&mut self, number: u8, production: &Production)
-        requires { Room self.old (production_of production.now).right }
+        requires room { Room self.old (production_of production.now).right }
+        requires head { (production_of production.now).head < 64 }
         ensures { Divided self.old self.new (production_of production.now).head number (production_of production.now).right }
     {
         let items = production.right();
@@ -77,11 +81,8 @@ fn single(item: u8) -> Right
 
 // The binarised rules of productions, by production and then by place, and after them one rule for each pattern's own symbol.
 pub(crate) fn binarise(productions: &[Production], patterns: u8) -> BinarisedRules
-    requires few { length productions.now ≤ 64 }
-    requires patterns { patterns ≤ 32 }
-    requires tails { all_tails (map production_of productions.now) ≤ 64 }
-    ensures rules { rules_held result ≡ binarised_rules (rows_book productions.now patterns) }
-    ensures symbols { result.symbols ≡ (binarised (rows_book productions.now patterns)).symbols }
+    requires { Sound (rows_book productions.now patterns) }
+    ensures { grammar_of result ≡ binarised (rows_book productions.now patterns) }
 {
     let mut out = BinarisedRules {
         rules: ArrayVec::new(),

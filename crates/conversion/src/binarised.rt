@@ -1,6 +1,8 @@
 // The list of binarised rules.
 ghost use Rattle.std.specs.Prelude.{◌≤◌};
 ghost use Rattle.arrayvec.specs.ArrayVec.{array_vec_len};
+ghost use Rattle.grammar.specs.Binarised.{Bounded};
+ghost use Rattle.conversion.specs.Views.{binarised_of};
 
 use crate::right::BinarisedRule;
 use arrayvec::ArrayVec;
@@ -14,4 +16,5 @@ pub struct BinarisedRules {
     ghost few: { array_vec_len rules ≤ 160 },
     ghost least: { 64 ≤ symbols },
     ghost most: { symbols ≤ 128 },
+    ghost bounded: { Bounded (binarised_of rules.items symbols) },
 }

@@ -27,7 +27,7 @@ pub enum Chain {
     Steps(u8, UnitStep),
 }
 
-// The chosen chain from each symbol to each symbol, where one leads there.
+// The chosen chain from each symbol to each symbol, where one leads there. A table by symbol, so an array.
 #[derive(Drop)]
 pub struct Chains {
     pub(crate) links: [[Option<Chain>; 128]; 128],

@@ -1,10 +1,12 @@
 // The strict form of a list of productions.
 ghost use Rattle.std.specs.Prelude.{◌≡◌, ◌≤◌, [], ◌∷◌, None, slice_index_or};
 ghost use Rattle.grammar.specs.Productions.{Sound};
-ghost use Rattle.conversion.specs.Binarised.{rows_book};
+ghost use Rattle.grammar.specs.Strict.{strict_rules};
+ghost use Rattle.conversion.specs.Binarised.{rows_book, grammar_of};
 ghost use Rattle.conversion.specs.Forms.{FormOf};
 ghost use Rattle.conversion.specs.Views.{strict_rule_of};
-ghost use Rattle.conversion.specs.Found.{proper_right, Appends, by_end, by_ends, StrictIn};
+ghost use Rattle.conversion.specs.Linked.{ChosenChains};
+ghost use Rattle.conversion.specs.Found.{proper_right, Holds, Appends, by_end, by_ends};
 
 use crate::binarise::binarise;
 use crate::binarised::BinarisedRules;
@@ -14,7 +16,6 @@ use crate::nullable::{Brought, Nullable};
 use crate::nullables::nullable;
 use crate::production::Production;
 use crate::right::{BinarisedRule, Right};
-use crate::steps::unit_steps;
 use crate::strict::{StrictRule, StrictRules};
 use arrayvec::ArrayVec;
 
@@ -63,15 +64,16 @@ impl StrictRules {
     }
 
     // The strict rules, by symbol, then by the end of the chain, then by number.
-    fn all(rules: &[BinarisedRule], chains: &Chains) -> StrictRules
-        ensures { StrictIn rules.now chains.now result }
+    fn all(binarised: &BinarisedRules, chains: &Chains) -> StrictRules
+        requires { ChosenChains (grammar_of binarised.now) chains.now }
+        ensures { Holds (strict_rules (grammar_of binarised.now)) result }
     {
         let mut out = StrictRules {
             rules: ArrayVec::new(),
             complete: true,
         };
         for symbol in 0..128 {
-            out.of(symbol, rules, chains);
+            out.of(symbol, &binarised.rules, chains);
         }
         out
     }
@@ -131,10 +133,9 @@ pub fn convert(productions: &[Production], patterns: u8) -> StrictForm
     ensures { FormOf (rows_book productions.now patterns) result }
 {
     let binarised = binarise(productions, patterns);
-    let nullable = nullable(&binarised.rules);
-    let steps = unit_steps(&binarised.rules, &nullable);
-    let chains = chains(&steps);
-    let strict = StrictRules::all(&binarised.rules, &chains);
+    let nullable = nullable(&binarised);
+    let chains = chains(&binarised, &nullable);
+    let strict = StrictRules::all(&binarised, &chains);
     StrictForm {
         binarised,
         nullable,

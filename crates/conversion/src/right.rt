@@ -16,6 +16,7 @@ pub enum Right {
 
 // A binarised rule: the symbol that it is a rule of, the number of the production that it comes from (255 for the rule of a
 // pattern's own symbol), its right side.
+// The number is 255 and no Option: so the format numbers that rule.
 #[derive(Clone, Copy, Default)]
 pub struct BinarisedRule {
     pub left: u8,

@@ -1,11 +1,13 @@
 // Unit steps: from a symbol to another by a rule of one symbol, or by a pair whose other symbol is nullable.
-ghost use Rattle.std.specs.Prelude.{◌≡◌, ℕ, ◌+◌, ◌<◌, ◌≤◌, ◌++◌, length, is_some, None, slice_index_or};
+ghost use Rattle.std.specs.Prelude.{◌≡◌, ◌+◌, ◌<◌, ◌≤◌, ◌++◌, is_some, None, slice_index_or};
 ghost use Rattle.arrayvec.specs.ArrayVec.{array_vec_len};
 ghost use Rattle.grammar.specs.Chains.{unit_step, steps_by};
+ghost use Rattle.conversion.specs.Binarised.{grammar_of};
 ghost use Rattle.conversion.specs.Held.{Nullables};
 ghost use Rattle.conversion.specs.Linked.{all_steps, steps_of};
-ghost use Rattle.conversion.specs.Views.{right_side_of, binarised_of, drop_of, step_of};
+ghost use Rattle.conversion.specs.Views.{right_side_of, drop_of, step_of};
 
+use crate::binarised::BinarisedRules;
 use crate::chain::{Dropped, UnitStep};
 use crate::nullable::Nullable;
 use crate::right::{BinarisedRule, Right};
@@ -46,12 +48,12 @@ impl BinarisedRule {
 }
 
 // The unit steps of binarised rules: at most 160 rules, each with at most two steps.
-pub(crate) fn unit_steps(rules: &[BinarisedRule], nullable: &Nullable) -> ArrayVec<UnitStep, 320>
-    requires { length rules.now ≤ 160 }
-    ensures { (S : ℕ) → Nullables (binarised_of rules.now S) nullable.now → steps_of result ≡ all_steps (binarised_of rules.now S) }
+pub(crate) fn unit_steps(binarised: &BinarisedRules, nullable: &Nullable) -> ArrayVec<UnitStep, 320>
+    requires { Nullables (grammar_of binarised.now) nullable.now }
+    ensures { steps_of result ≡ all_steps (grammar_of binarised.now) }
 {
     let mut out = ArrayVec::new();
-    for rule in rules {
+    for rule in binarised.rules.iter() {
         rule.steps(nullable, &mut out);
     }
     out
