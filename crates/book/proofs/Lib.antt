@@ -4,8 +4,8 @@ pub mod Refused
 pub mod NoRules
 pub mod Some
 pub mod Props
-pub mod Closed
 pub mod Formed
+pub mod Closed
 pub mod Loading
 pub mod Striking
 pub mod Running
