@@ -1,4 +1,4 @@
-// Open and closed books: two types over one plain struct of rows.
+// Open and closed books over any alphabet. The rules themselves know no alphabet, so their calls are proved and built once for all.
 ghost use Rattle.std.specs.Prelude.{◌≡◌, length};
 
 use crate::alphabet::Alphabet;

@@ -76,7 +76,7 @@ impl StrikeFault {
 }
 
 impl LoadFault {
-    // The number of the refusal.
+    // The number of the refusal: by cases, since these hold a fault or a place and so are no numbers themselves.
     pub fn number(self) -> u8
         ensures { result ≡ load_number self }
     {

@@ -1,4 +1,4 @@
-// Rules are offered to the rules of a book.
+// A rule is offered to the rules held.
 ghost use Rattle.std.specs.Prelude.{◌≡◌, ◌+◌, ◌≤◌, [], map, length, MatchResult, nat_le};
 ghost use Rattle.grammar.specs.Lists.{some_of};
 ghost use Rattle.grammar.specs.Productions.{all_tails, Sound};
@@ -48,8 +48,8 @@ fn some_same(rule: &Production, rules: &[Production]) -> bool
     rules.iter().any(|other| same(rule, other))
 }
 
-// Whether rules that keep to the other bounds have few enough tails and strict rules; if not, which are too many.
-fn fit(rules: &[Production], patterns: u8) -> Result<(), OfferFault>
+// Refuses rules that take too many tails or strict rules; they keep to the other bounds.
+fn check_size(rules: &[Production], patterns: u8) -> Result<(), OfferFault>
     requires few { length rules.now ≤ 64 }
     requires sound { all_tails (map production_of rules.now) ≤ 64 → Sound (rows_book rules.now patterns) }
     ensures { MatchResult result (λ _. size_refusal (rows_book rules.now patterns) ≡ 0) (λ f. size_refusal (rows_book rules.now patterns) ≡ offer_number f) }
@@ -96,7 +96,7 @@ impl Rules {
             return Err(OfferFault::BookFull);
         }
         self.rows.push(rule);
-        if let Err(fault) = fit(&self.rows, self.patterns) {
+        if let Err(fault) = check_size(&self.rows, self.patterns) {
             self.rows.pop();
             return Err(fault);
         }

@@ -7,6 +7,7 @@ use arrayvec::ArrayVec;
 use conversion::production::Production;
 
 // The rules held, over so many patterns. They keep to the bounds of a book, and their strict form fits.
+// The number of patterns stands here and not beside, since those bounds hang on it; so a call that changes the rules says that it stays.
 #[derive(Drop)]
 pub struct Rules {
     pub(crate) rows: ArrayVec<Production, 64>,

@@ -73,8 +73,8 @@ restored b rows a e = λ i. record {
   admitted = is_prop→PathP (λ i. ∥ Admitted (rows_book (e i) b.patterns) ∥₁) (λ i. ∥∥₁_prop) a b.admitted i;
 }
 
-pub fit-requires-clause-sound : goal.fit-requires-clause-sound
-fit-requires-clause-sound c t =
+pub check_size-requires-clause-sound : goal.check_size-requires-clause-sound
+check_size-requires-clause-sound c t =
     let b = c.args.self.now in
     let k = passed b c.args.head c.args.items.now c.args.cost c.in_ok-rule.rule c.new.result c.new.ensures c.in_ok-rule.ensures.ok_part c.if-head-ge-HEADS.false c.if-some_unknown.ensures
     c.deref.result.now c.deref.ensures.0 c.if-some_same.ensures in
