@@ -1,9 +1,9 @@
 -- How words are spelled.
-use Rattle.std.proofs.Common.{◌≡◌, ℕ, ◌-◌, ◌<◌, true, false, cond, T, eqb, ◌⊎◌, List, [], ◌∷◌, length, get_or, take, drop, Decides, sym, refl, ap, ◌∙◌, subst, inl, inr, ⊎_elim, arith, rules}
+use Rattle.std.proofs.Common.{◌≡◌, ℕ, ◌-◌, ◌<◌, true, false, cond, eqb, ◌⊎◌, List, [], ◌∷◌, length, get_or, take, drop, Decides, sym, refl, ap, ◌∙◌, subst, inl, inr, ⊎_elim, arith, rules}
 use Rattle.std.proofs.lemmas.Slice.Eq.{compares_Decides}
 use Rattle.std.proofs.lemmas.List.{take_rest}
 use Rattle.std.proofs.lemmas.Slice.{first_rest}
-use Rattle.std.proofs.lemmas.Bool.{cases_Bool, cases_eq, both_ways, ne_eqb, cond-true, cond-false}
+use Rattle.std.proofs.lemmas.Bool.{cases_Bool, cases_eq, ne_eqb, cond-true, cond-false}
 use Rattle.grammar.specs.Lists.{same_numbers}
 use Rattle.text.specs.Kinds.{Kind, arrow, blank, head, pattern, cost, unknown, arrow_text, blank_text, lettered as by_letter, spelled as by_spelling, kind, word_of, kind_of, Spelled, OfKind, Known, Lettered, Sound}
 use Rattle.text.specs.declared.token.Token.{Token}
@@ -41,28 +41,9 @@ rest_of w d a e = take_rest w 1 ∙ ap (drop 1) e
 pub lettered : (w : List ℕ) (a : ℕ) → 0 < a → get_or w 0 0 ≡ a → is_numeral (take (length w - 1) (drop 1 w)) ≡ true → Lettered a w
 lettered w a h p n = (take (length w - 1) (drop 1 w), n, sym (spelled w a h p))
 
--- a letter and the rest is no word of a kind where the rest is no number
-pub no_numeral : (w : List ℕ) → is_numeral (take (length w - 1) (drop 1 w)) ≡ false → (w ≡ arrow_text → ⊥) → (w ≡ blank_text → ⊥) → Known w → ⊥
-no_numeral w f na nb (inl e) = na e
-no_numeral w f na nb (inr (inl e)) = nb e
-no_numeral w f na nb (inr (inr k)) = ⊎_elim (no 72) (⊎_elim (no 80) (no 35)) k
-  where
-    no : (a : ℕ) → Lettered a w → ⊥
-    no a (d, t, e) = let h : true ≡ false = sym t ∙ (sym (ap is_numeral (rest_of w d a e)) ∙ f) in subst T h tt
-
 -- two spellings are one, or not
 same_decides : (v w : List ℕ) → Decides (same_numbers v w) (v ≡ w)
 same_decides v w = compares_Decides same_numbers (search rules) v w
-
-not_same : (v w : List ℕ) → (v ≡ w → ⊥) → same_numbers v w ≡ false
-not_same v w n = ⊎_elim (λ (t : same_numbers v w ≡ true). absurd (n ((same_decides v w).0 t))) (λ (f : same_numbers v w ≡ false). f) (cases_Bool (same_numbers v w))
-
--- a word with no fixed spelling
-pub kind_other : (w : List ℕ) → (w ≡ arrow_text → ⊥) → (w ≡ blank_text → ⊥) → kind w ≡ by_spelling w
-unfolding kind
-kind_other w na nb =
-    cond-false (same_numbers w arrow_text) arrow (cond (same_numbers w blank_text) blank (by_spelling w)) (not_same w arrow_text na)
-    ∙ cond-false (same_numbers w blank_text) blank (by_spelling w) (not_same w blank_text nb)
 
 pub kind_arrow : (w : List ℕ) → w ≡ arrow_text → kind w ≡ arrow
 unfolding kind
@@ -71,23 +52,6 @@ kind_arrow w e = ap kind e
 pub kind_blank : (w : List ℕ) → w ≡ blank_text → kind w ≡ blank
 unfolding kind
 kind_blank w e = ap kind e
-
--- a letter before a number
-pub kind_lettered : (w : List ℕ) (a : ℕ) → get_or w 0 0 ≡ a → is_numeral (take (length w - 1) (drop 1 w)) ≡ true → (w ≡ arrow_text → ⊥) → (w ≡ blank_text → ⊥)
-    → kind w ≡ by_letter a (decimal (drop 1 w))
-kind_lettered w a p n na nb = kind_other w na nb ∙ at w p n
-  where
-    at : (w : List ℕ) → get_or w 0 0 ≡ a → is_numeral (take (length w - 1) (drop 1 w)) ≡ true → by_spelling w ≡ by_letter a (decimal (drop 1 w))
-    at [] p n = absurd (both_ways _ refl n)
-    at (x ∷ ds) p n = cond-true (is_numeral ds) (by_letter x (decimal ds)) unknown (sym (ap is_numeral (take_rest (x ∷ ds) 1)) ∙ n) ∙ ap (λ z. by_letter z (decimal ds)) p
-
--- no number after the letter
-pub kind_no_number : (w : List ℕ) → is_numeral (take (length w - 1) (drop 1 w)) ≡ false → (w ≡ arrow_text → ⊥) → (w ≡ blank_text → ⊥) → kind w ≡ unknown
-kind_no_number w n na nb = kind_other w na nb ∙ at w n
-  where
-    at : (w : List ℕ) → is_numeral (take (length w - 1) (drop 1 w)) ≡ false → by_spelling w ≡ unknown
-    at [] n = refl
-    at (x ∷ ds) n = cond-false (is_numeral ds) (by_letter x (decimal ds)) unknown (sym (ap is_numeral (take_rest (x ∷ ds) 1)) ∙ n)
 
 -- the letter is none that comes before a number
 pub other_letter : (a n : ℕ) → (a ≡ 72 → ⊥) → (a ≡ 80 → ⊥) → (a ≡ 35 → ⊥) → by_letter a n ≡ unknown

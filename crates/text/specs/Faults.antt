@@ -16,9 +16,13 @@ line_fault_place (OverLimit at) = at
 line_fault_place (OutOfPlace at) = at
 line_fault_place (TooShort at) = at
 
--- a refusal in plain words: its cause, its byte place and its number
+-- its cause in plain words
+abbrev pub line_fault_cause : LineFault → List ℕ
+line_fault_cause (Unknown at) = codes "an unknown word"
+line_fault_cause (OverLimit at) = codes "a number over its limit"
+line_fault_cause (OutOfPlace at) = codes "a word out of place"
+line_fault_cause (TooShort at) = codes "a line too short"
+
+-- its text: its cause, its byte place and its number
 abbrev pub line_fault_text : LineFault → List ℕ
-line_fault_text (Unknown at) = codes "an unknown word at byte " ++ (decimal at ++ codes " (refusal 20)")
-line_fault_text (OverLimit at) = codes "a number over its limit at byte " ++ (decimal at ++ codes " (refusal 21)")
-line_fault_text (OutOfPlace at) = codes "a word out of place at byte " ++ (decimal at ++ codes " (refusal 22)")
-line_fault_text (TooShort at) = codes "a line too short at byte " ++ (decimal at ++ codes " (refusal 23)")
+line_fault_text f = line_fault_cause f ++ (codes " at byte " ++ (decimal (line_fault_place f) ++ (codes " (refusal " ++ (decimal (line_fault_number f) ++ codes ")"))))

@@ -48,15 +48,15 @@ impl fmt::Display for LineFault {
     ghost output = { λ f. Some (line_fault_text f) };
 
     fn fmt<W: fmt::Write>(&self, f: &mut fmt::Formatter<W>) -> fmt::Result {
-        match self {
-            LineFault::Unknown(at) => write!(f, "an unknown word at byte {at} (refusal 20)"),
-            LineFault::OverLimit(at) => write!(
-                f,
-                "a number over its limit at byte {at} (refusal 21)"
-            ),
-            LineFault::OutOfPlace(at) => write!(f, "a word out of place at byte {at} (refusal 22)"),
-            LineFault::TooShort(at) => write!(f, "a line too short at byte {at} (refusal 23)"),
-        }
+        let cause = match self {
+            LineFault::Unknown(_) => "an unknown word",
+            LineFault::OverLimit(_) => "a number over its limit",
+            LineFault::OutOfPlace(_) => "a word out of place",
+            LineFault::TooShort(_) => "a line too short",
+        };
+        let place = self.place();
+        let number = self.number();
+        write!(f, "{cause} at byte {place} (refusal {number})")
     }
 }
 
