@@ -30,10 +30,6 @@ Amid B k x os (Some b) = ((b.round < k) × Brings B x b)
 abbrev pub TableAmid : Binarised → ℕ → List Rule → List (Option Brought) → Type 0
 TableAmid B k rs t = (x : ℕ) → Amid B k x (rules_in x rs) (get_or t x None)
 
-amid_start : (B : Binarised) (k x : ℕ) (o : Option Brought) → WithinRounds B k x o → Amid B k x [] o
-amid_start B k x None h = (h, refl)
-amid_start B k x (Some b) h = inl h
-
 amid_end : (B : Binarised) (k x : ℕ) (o : Option Brought) → Amid B k x (rules_of B x) o → WithinRounds B (suc k) x o
 unfolding nullable_after
 amid_end B k x None h = or_from (nullable_after B k x) _ h.0 h.1
@@ -89,9 +85,6 @@ module _ (B : Binarised) (bounded : Bounded B) where
   sooner_held k x os None h = sym h.0
   sooner_held k x os (Some b) (inl h) = lt-ltb b.round k h.0 ∙ sym (held_on (suc b.round) k x (omega (arith, h.0)) h.1.1)
   sooner_held k x os (Some b) (inr h) = le-ltb b.round k (omega (arith, h.0)) ∙ sym h.1
-
-  pub table_start : (k : ℕ) (n : Nullable) → AfterRounds B k n → TableAmid B k [] n.brought
-  table_start k n h x = amid_start B k x (get_or n.brought x None) (h x)
 
   pub table_end : (k : ℕ) (n : Nullable) → TableAmid B k B.rules n.brought → AfterRounds B (suc k) n
   unfolding rules_of
@@ -182,14 +175,6 @@ module _ (B : Binarised) (bounded : Bounded B) where
       same : (y : ℕ) (o : Option Brought) → WithinRounds B k y o → WithinRounds B (suc k) y o → nullable_after B (suc k) y ≡ nullable_after B k y
       same y None p q = q ∙ sym p
       same y (Some b) p q = held_on (suc b.round) (suc k) y (omega (arith, p.0)) p.1.1 ∙ sym (held_on (suc b.round) k y (omega (arith, p.0)) p.1.1)
-
--- a symbol is held exactly if it is blank
-pub nullable_holds : (B : Binarised) (n : Nullable) → Nullables B n → (x : ℕ) → is_some (get_or n.brought x None) ≡ nullable B x
-nullable_holds B n h x = at (get_or n.brought x None) (h x)
-  where
-    at : (o : Option Brought) → BroughtIn B x o → is_some o ≡ nullable B x
-    at None p = sym p
-    at (Some b) p = sym p.0
 
 -- before the first round nothing is held
 pub rounds_start : (B : Binarised) (x : ℕ) → WithinRounds B 0 x (get_or (replicate 128 None) x None)

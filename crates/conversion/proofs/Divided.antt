@@ -1,6 +1,6 @@
 -- The steps by which binarised rules come to be those of a book.
 use Rattle.std.proofs.Common.{◌≡◌, ℕ, ◌+◌, ◌<◌, List, [], ◌∷◌, ◌++◌, map, length, get_or, drop, refl, sym, ap, ◌∙◌, subst, ap₂, add-one, arith}
-use Rattle.std.proofs.lemmas.List.{drop_more, drop_all, append_assoc, append-nil, length-append, length-map, get_or-map, map_push}
+use Rattle.std.proofs.lemmas.List.{drop_more, append_assoc, append-nil, length-append, length-map, get_or-map, map_push}
 use Rattle.arrayvec.specs.ArrayVec.{array_vec_len}
 use Rattle.grammar.specs.Lists.{each, below}
 use Rattle.grammar.proofs.Lists.{length_count_up, mem_map}
@@ -41,14 +41,6 @@ split_more x n z k ys h =
     ap (binarise_right x n z) (drop_more ys k 0 (omega arith) ∙ ap (λ l. a ∷ l) last)
     ∙ ap₂ (λ l s. rule x n (binary a z) ∷ binarise_right z n s l) (sym last) (sym (add-one z))
 
-pub split_end : (x n z k : ℕ) (ys : List ℕ) → k + 2 ≡ length ys
-    → binarise_right x n z (drop k ys) ≡ rule x n (binary (get_or ys k 0) (get_or ys (k + 1) 0)) ∷ []
-split_end x n z k ys h =
-    ap (binarise_right x n z)
-    (drop_more ys k 0 (omega arith)
-    ∙ ap (λ l. get_or ys k 0 ∷ l)
-    (drop_more ys (k + 1) 0 (omega arith) ∙ ap (λ l. get_or ys (k + 1) 0 ∷ l) (drop_all (k + 1 + 1) ys (omega arith))))
-
 -- the rules that have come and those that are left
 abbrev pub Whole : BinarisedRules → ℕ → ℕ → ℕ → List ℕ → List Rule
 Whole b x n k ys = rules_held b ++ binarise_right x n b.symbols (drop k ys)
@@ -62,10 +54,6 @@ pairs_more was mid is x n z k y t ys h a p f g =
     ap₂ (λ l j. l ++ binarise_right z n j (drop (k + 1) ys)) last s
     ∙ append_assoc (rules_held was) (m ∷ []) (binarise_right z n (z + 1) (drop (k + 1) ys))
     ∙ ap (λ l. rules_held was ++ l) (sym (split_more x n z k ys h) ∙ ap (λ j. binarise_right x n j (drop k ys)) a.1)
-
-pub pairs_end : (was is : BinarisedRules) (x n k : ℕ) (ys : List ℕ) → k + 2 ≡ length ys
-    → Pushed was is x n (Binary (get_or ys k 0) (get_or ys (k + 1) 0)) → rules_held is ≡ Whole was x n k ys
-pairs_end was is x n k ys h p = p.0 ∙ ap (λ l. rules_held was ++ l) (sym (split_end x n was.symbols k ys h))
 
 -- the tails of the productions before one
 
@@ -120,12 +108,6 @@ upto_more rows T n was is p h e u d =
 -- all these, and the rules of the first t patterns
 abbrev pub Beyond : Book → ℕ → BinarisedRules → Type 0
 Beyond W t b = (rules_held b ≡ each (binarise_production W) (below (length W.productions)) ++ map terminal_rule (below t)) × (b.symbols ≡ first_tail W (length W.productions))
-
-pub beyond_none : (rows : List Production) (T n : ℕ) (b : BinarisedRules) → n ≡ length rows → Upto (rows_book rows T) n b → Beyond (rows_book rows T) 0 b
-beyond_none rows T n b e u =
-    let W = rows_book rows T in
-    let all : n ≡ length W.productions = e ∙ sym (length-map rows production_of) in
-    (u.0 ∙ ap (λ m. each (binarise_production W) (below m)) all ∙ sym (append-nil (each (binarise_production W) (below (length W.productions)))), u.1 ∙ ap (first_tail W) all)
 
 pub beyond_count : (rows : List Production) (T t : ℕ) (b : BinarisedRules) → Sound (rows_book rows T) → t < T
     → Beyond (rows_book rows T) t b → array_vec_len b.rules < 160

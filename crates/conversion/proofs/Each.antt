@@ -10,12 +10,6 @@ each_append f (x ∷ xs) ys = ap (λ l. f x ++ l) (each_append f xs ys) ∙ sym 
 pub each_push : {A B : Type 0} (f : A → List B) (xs : List A) (y : A) → each f (xs ++ (y ∷ [])) ≡ each f xs ++ f y
 each_push f xs y = each_append f xs (y ∷ []) ∙ ap (λ l. each f xs ++ l) (append-nil (f y))
 
-pub those_append : {A : Type 0} (p : A → Bool) (xs ys : List A) → those p (xs ++ ys) ≡ those p xs ++ those p ys
-those_append p [] ys = refl
-those_append p (x ∷ xs) ys =
-    elim (p x) as (λ b. cond b (x ∷ those p (xs ++ ys)) (those p (xs ++ ys)) ≡ cond b (x ∷ those p xs) (those p xs) ++ those p ys)
-    [ true ↦ ap (λ l. x ∷ l) (those_append p xs ys) | false ↦ those_append p xs ys ]
-
 -- one after the other by those that pass a test: nothing for the others
 pub each_those : {A B : Type 0} (f : A → List B) (p : A → Bool) (xs : List A) → each f (those p xs) ≡ each (λ x. cond (p x) (f x) []) xs
 each_those f p [] = refl

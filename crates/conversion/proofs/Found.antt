@@ -1,8 +1,10 @@
 -- The steps by which the strict rules of a grammar are found.
 use Rattle.std.proofs.Common.{◌≡◌, ℕ, zero, suc, ◌+◌, ◌<◌, ◌≤◌, Bool, true, false, cond, ◌||◌, eqb, leb, List, [], ◌∷◌, ◌++◌, map, length, get_or, take, sym, refl, ap, ◌∙◌, subst, ap₂, inl, inr, arith}
 use Rattle.std.proofs.lemmas.List.{append_assoc, append-nil, map-append, length-append, length-map, length-take, map_push, take_all, take-append-le, take_more}
+use Rattle.std.proofs.Math.Bool.{or-false}
 use Rattle.std.proofs.lemmas.Bool.{le-leb, lt-leb, cases_lt, eq-eqb, ne_eqb}
 use Rattle.grammar.specs.Lists.{Mem, some_of, those, each, below}
+use Rattle.grammar.proofs.Lists.{those_append}
 use Rattle.grammar.specs.Binarised.{Rule, Binarised, OwnRule, rules_in, rules_of, Bounded}
 use Rattle.grammar.specs.Nullable.{nullable}
 use Rattle.grammar.specs.Chains.{ChainStep, steps_by, steps, within, reached}
@@ -13,7 +15,7 @@ use Rattle.conversion.specs.declared.strict.StrictRules.{StrictRules}
 use Rattle.conversion.specs.Views.{right_side_of, rule_of, binarised_of}
 use Rattle.conversion.specs.Found.{linked, Reached, proper_right, Holds, Appends, by_end, by_ends}
 use Rattle.conversion.proofs.Firsts.{own_append}
-use Rattle.conversion.proofs.Each.{those_append, each_those, each_more, each_same, each_shorter}
+use Rattle.conversion.proofs.Each.{each_those, each_more, each_same, each_shorter}
 
 -- one more, or no room for it
 
@@ -146,10 +148,6 @@ nothing_either false = refl
 by_link_past : (rules : List BinarisedRule) (c : Chains) (S x y : ℕ) → Bounded (binarised_of rules S) → S ≤ y → by_link rules c x y ≡ []
 by_link_past rules c S x y b h = ap (λ l. cond (linked c x y) l []) (by_end_past rules S x y b h) ∙ nothing_either (linked c x y)
 
-or_false : (b : Bool) → (b || false) ≡ b
-or_false true = refl
-or_false false = refl
-
 steps_none : (B : Binarised) (x : ℕ) → rules_of B x ≡ [] → steps B x ≡ []
 unfolding steps
 steps_none B x e = ap (each (λ (o : OwnRule). steps_by (nullable B) x o.0 o.1)) e
@@ -159,7 +157,7 @@ pub within_none : (B : Binarised) (x y k : ℕ) → steps B x ≡ [] → within 
 unfolding within
 within_none B x y zero e = refl
 within_none B x y (suc k) e =
-    ap₂ (λ b l. b || some_of (λ (s : ChainStep). within B y k s.to) l) (within_none B x y k e) e ∙ or_false (eqb x y)
+    ap₂ (λ b l. b || some_of (λ (s : ChainStep). within B y k s.to) l) (within_none B x y k e) e ∙ or-false (eqb x y)
 
 own_of : (rules : List BinarisedRule) (S y : ℕ) → rules_of (binarised_of rules S) y ≡ rules_in y (map rule_of rules)
 unfolding rules_of

@@ -1,7 +1,6 @@
 -- The table of chains, place by place.
 use Rattle.std.proofs.Common.{◌≡◌, ℕ, ◌+◌, ◌<◌, ◌≤◌, Bool, true, false, cond, not, ◌&&◌, eqb, ltb, [], get_or, replicate, Some, None, sym, refl, ap, ◌∙◌, subst, ap₂, inl, inr, arith}
 use Rattle.std.proofs.lemmas.List.{get_or-replicate}
-use Rattle.std.proofs.lemmas.Bool.Decides.{nat_tests}
 use Rattle.std.proofs.lemmas.Bool.{cases_Bool, cases_eq, cases_lt, cases_order, lt-ltb, le-ltb, eqb-true, eq-eqb, ne_eqb, and_left, and_right, cond-true, cond-false}
 use Rattle.grammar.specs.Binarised.{Binarised}
 use Rattle.grammar.specs.Chains.{within}
@@ -72,7 +71,3 @@ pub none_links : (a b : ℕ) → a < 128 → b < 128 → get_or (get_or (replica
 none_links a b l m =
     ap (λ r. get_or r b None) (get_or-replicate 128 a (replicate 128 None) [] l) ∙ get_or-replicate 128 b None None m
     ∙ sym (cond-false _ (Some Empty) _ (and_right (eqb a b) _ (le-ltb a 0 (omega arith))))
-
--- one symbol more from itself to itself
-pub start_turn : (x a b : ℕ) → cond (eqb a x && eqb b x) (Some Empty) (cond (eqb a b && ltb a x) (Some Empty) None) ≡ cond (eqb a b && ltb a (x + 1)) (Some Empty) None
-start_turn x a b = grind (arith, nat_tests)

@@ -6,7 +6,7 @@ use Rattle.std.proofs.lemmas.Bool.{true≢false, both_ways, cases_Bool, cases_eq
 use Rattle.grammar.specs.Lists.{Mem, some_of, first_of, those}
 use Rattle.grammar.specs.Binarised.{Binarised, Bounded}
 use Rattle.grammar.specs.Chains.{nothing, ChainStep, unit_step, steps, nearer, within}
-use Rattle.grammar.proofs.Lists.{mem_map, some_gives, those_mem}
+use Rattle.grammar.proofs.Lists.{mem_map, some_gives, those_append, those_mem}
 use Rattle.grammar.proofs.Rounds.{in_the_end, settled}
 use Rattle.grammar.proofs.Chains.{within_next, within_grows, within_self, within_small}
 use Rattle.conversion.specs.Views.{step_of}
@@ -16,7 +16,6 @@ use Rattle.conversion.specs.declared.chain.Chain.{Chain}
 use Rattle.conversion.specs.declared.chain.Chain.TheVariants.{Empty, Steps}
 use Rattle.conversion.specs.declared.chain.Chains.{Chains}
 use Rattle.conversion.proofs.Firsts.{some_append, first_append, get_d_mem}
-use Rattle.conversion.proofs.Each.{those_append}
 use Rattle.conversion.proofs.Stepping.{starts, own_steps}
 
 -- a chain of at most j steps leads to y from where the step ends

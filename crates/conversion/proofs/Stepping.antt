@@ -1,24 +1,12 @@
 -- Unit steps rule by rule, and the steps of one symbol among them.
-use Rattle.std.proofs.Common.{◌≡◌, ℕ, zero, ◌+◌, ◌<◌, Bool, true, false, cond, eqb, List, [], ◌∷◌, ◌++◌, map, length, get_or, take, sym, refl, ap, ◌∙◌, ap₂}
-use Rattle.std.proofs.lemmas.List.{append-nil, map_more}
+use Rattle.std.proofs.Common.{◌≡◌, ℕ, zero, Bool, true, false, cond, eqb, List, [], ◌∷◌, ◌++◌, refl, ap, ◌∙◌, ap₂}
 use Rattle.std.proofs.lemmas.Bool.{eqb-true}
 use Rattle.grammar.specs.Lists.{those, each}
+use Rattle.grammar.proofs.Lists.{those_append}
 use Rattle.grammar.specs.Binarised.{Right as RightSide, empty, unit, binary, terminal, Rule, Binarised, OwnRule, rules_in, rules_of}
 use Rattle.grammar.specs.Nullable.{nullable}
 use Rattle.grammar.specs.Chains.{Dropped as Drop, nothing, the_right, the_left, ChainStep, unit_step, steps_by, steps}
-use Rattle.conversion.proofs.Each.{each_append, those_append}
 use Rattle.conversion.specs.Linked.{all_steps}
-
--- one row more
-pub each_more : {A B C : Type 0} (f : B → List C) (g : A → B) (xs : List A) (i : ℕ) (d : A) → i < length xs
-    → each f (map g (take (i + 1) xs)) ≡ each f (map g (take i xs)) ++ f (g (get_or xs i d))
-each_more f g xs i d h =
-    ap (each f) (map_more g xs i d h) ∙ each_append f (map g (take i xs)) (g (get_or xs i d) ∷ []) ∙ ap (λ l. each f (map g (take i xs)) ++ l) (append-nil (f (g (get_or xs i d))))
-
--- the turn of a loop that puts down what each row gives
-pub each_turn : {A B C : Type 0} (f : B → List C) (g : A → B) (xs : List A) (i : ℕ) (d : A) (l m : List C) → i < length xs
-    → m ≡ l ++ f (g (get_or xs i d)) → l ≡ each f (map g (take i xs)) → m ≡ each f (map g (take (i + 1) xs))
-each_turn f g xs i d l m h e k = e ∙ ap (λ z. z ++ f (g (get_or xs i d))) k ∙ sym (each_more f g xs i d h)
 
 -- a step begins at x
 abbrev pub starts : ℕ → ChainStep → Bool

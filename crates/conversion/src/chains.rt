@@ -88,7 +88,7 @@ impl Chains {
     }
 }
 
-// The chosen chains of unit steps. A shortest chain passes no symbol twice, so it has fewer than 128 steps.
+// The chosen chains of binarised rules. A shortest chain passes no symbol twice, so it has fewer than 128 steps.
 pub(crate) fn chains(binarised: &BinarisedRules, nullable: &Nullable) -> Chains
     requires nullables { Nullables (grammar_of binarised.now) nullable.now }
     requires ends { EndsBelow (grammar_of binarised.now) }

@@ -1,6 +1,6 @@
-use Rattle.std.proofs.Common.{◌≡◌, length, arith}
+use Rattle.std.proofs.Common.{arith}
 use Rattle.conversion.specs.Binarised.{rows_book}
-use Rattle.conversion.proofs.Divided.{upto_none, upto_room, upto_more, head_small, beyond_none, beyond_count, beyond_more, beyond_all, split_is}
+use Rattle.conversion.proofs.Divided.{upto_none, upto_room, upto_more, head_small, beyond_count, beyond_more, beyond_all, split_is}
 use Rattle.conversion.proofs.binarise.binarise.Goals as goal
 
 pub loop-n-init : goal.loop-n-init
@@ -17,11 +17,6 @@ production-requires-clause-head c =
 pub loop-n-preserved : goal.loop-n-preserved
 loop-n-preserved c =
     upto_more c.args.productions.now c.args.patterns c.loop-n.n c.loop-n.out c.production.new.self c.index-productions-n.result c.loop-n-test.true c.index-productions-n.is c.loop-n.invariant c.production.ensures
-
-pub loop-t-init : goal.loop-t-init
-loop-t-init c =
-    let all : c.loop-n.n ≡ length c.args.productions.now = omega arith in
-    beyond_none c.args.productions.now c.args.patterns c.loop-n.n c.loop-n.out all c.loop-n.invariant
 
 pub push-requires-clause-room : goal.push-requires-clause-room
 push-requires-clause-room c =

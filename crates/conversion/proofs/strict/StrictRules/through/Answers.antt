@@ -1,15 +1,11 @@
-use Rattle.std.proofs.Common.{[], ◌∷◌, get_or, sym, ap, ◌∙◌, subst}
-use Rattle.std.proofs.lemmas.List.{take_all}
+use Rattle.std.proofs.Common.{[], ◌∷◌, get_or, sym, ◌∙◌, subst}
 use Rattle.conversion.specs.declared.right.BinarisedRule.{BinarisedRule}
 use Rattle.conversion.specs.declared.right.Right.TheVariants.{Empty}
 use Rattle.conversion.specs.declared.strict.StrictRules.{StrictRules}
 use Rattle.conversion.specs.Found.{Appends, by_end}
-use Rattle.conversion.proofs.Found.{appends_none, appends_same, appends_nothing, by_end_one, by_end_other, by_end_improper, through_more}
+use Rattle.conversion.proofs.Found.{appends_same, appends_nothing, by_end_one, by_end_other, by_end_improper, through_more}
 use Rattle.conversion.proofs.strict.StrictRules.through.Goals as goal
 use Rattle.conversion.proofs.strict.StrictRules.through.Goals.{then-rule-end+then-proper, else-rule-end, else-rule-end-via-then-rule-end+else-proper, else-rule-end-via-else-rule-end}
-
-pub loop-rule-init : goal.loop-rule-init
-loop-rule-init c = appends_none c.args.self.now
 
 pub loop-rule-preserved : goal.loop-rule-preserved
 loop-rule-preserved c =
@@ -32,8 +28,3 @@ loop-rule-preserved c =
         | else-rule-end-via-else-rule-end v ↦ appends_nothing was is _ w.self-is (by_end_other r x y v.if-rule-end.false)
       ]
     ])
-
-pub returns : goal.returns
-returns c =
-    appends_same c.args.self.now c.loop-rule.self _ _
-    (ap (λ l. by_end l c.args.symbol c.args.end) (take_all c.loop-rule.rule-index c.args.rules.now c.loop-rule-test.false)) c.loop-rule.invariant
