@@ -2,9 +2,10 @@ pub mod FitsAt
 pub mod Held
 pub mod Refused
 pub mod NoRules
+pub mod Some
 pub mod Props
-pub mod Closed
 pub mod Formed
+pub mod Closed
 pub mod Loading
 pub mod Striking
 pub mod Running

@@ -52,8 +52,6 @@ impl Alphabet for Cards {
         ensures always { CardFits pattern event → T result }
         ensures tested { Tests CardFits card_test }
     {
-        pattern.kind == event.kind
-            && pattern.lowest <= event.argument
-            && event.argument <= pattern.highest
+        pattern.kind == event.kind && (pattern.lowest..=pattern.highest).contains(&event.argument)
     }
 }

@@ -1,28 +1,23 @@
-// Open and closed books: two types over one plain struct of rows.
-ghost use Rattle.std.specs.Prelude.{◌≡◌, take};
-ghost use Rattle.conversion.specs.Binarised.{rows_book};
-ghost use Rattle.conversion.specs.Forms.{FormOf};
-ghost use Rattle.book.specs.Fits.{pattern_count};
+// Open and closed books over any alphabet. The rules themselves know no alphabet, so their calls are proved and built once for all.
+ghost use Rattle.std.specs.Prelude.{◌≡◌, length};
 
 use crate::alphabet::Alphabet;
+use crate::converted::Converted;
 use crate::rules::Rules;
 use crate::table::PatternTable;
-use conversion::form::StrictForm;
 
 // A book that takes rules. Closing it gives a closed book; no chart is cut from an open one.
 #[derive(Drop)]
 pub struct OpenBook<'p, A: Alphabet> {
     pub(crate) table: PatternTable<'p, A>,
     pub(crate) rules: Rules,
-    ghost over: { rules.patterns ≡ pattern_count table.patterns.now },
+    ghost over: { rules.patterns ≡ length table.patterns.now },
 }
 
 // A book that charts are cut from. It takes no rule, and has the strict form of those that it holds.
 #[derive(Drop)]
 pub struct ClosedBook<'p, A: Alphabet> {
     pub(crate) table: PatternTable<'p, A>,
-    pub(crate) rules: Rules,
-    pub(crate) form: StrictForm,
-    ghost over: { rules.patterns ≡ pattern_count table.patterns.now },
-    ghost formed: { ∥ FormOf (rows_book (take rules.count rules.rows) rules.patterns) form ∥₁ },
+    pub(crate) converted: Converted,
+    ghost over: { converted.rules.patterns ≡ length table.patterns.now },
 }

@@ -62,6 +62,15 @@ impl Production {
     }
 }
 
+// The production that an unused row holds.
+impl Default for Production {
+    ghost is_default = { λ p. production_of p ≡ written 0 [] 0 };
+
+    fn default() -> Production {
+        Production::empty()
+    }
+}
+
 // How many tails all the productions take.
 pub fn all_tails(productions: &[Production]) -> usize
     requires { length productions.now ≤ 64 }
