@@ -14,6 +14,8 @@ use Rattle.conversion.specs.declared.form.StrictForm.{StrictForm}
 use Rattle.conversion.specs.declared.strict.StrictRule.{StrictRule}
 use Rattle.conversion.specs.Views.{strict_rule_of}
 use Rattle.conversion.specs.Forms.{FormOf}
+use Rattle.book.specs.declared.converted.Converted.{Converted}
+use Rattle.book.specs.Rules.{rules_book}
 use Rattle.book.specs.Books.{StrictRulesAre}
 use Rattle.book.proofs.Props.{admitted_of}
 
@@ -24,9 +26,6 @@ in_array f = map strict_rule_of (take f.strict.count f.strict.rules)
 -- they are all of them, since these fit
 pub listed : (W : Book) (f : StrictForm) → Admitted W → FormOf W f → in_array f ≡ strict_rules (binarised W)
 listed W f a form = form.strict.0 ∙ take_all 1024 (strict_rules (binarised W)) a.few_strict
-
-pub closed_are : (E : Type 0) (W : Book) (f : StrictForm) → Admitted W → FormOf W f → StrictRulesAre E W (in_array f)
-closed_are E W f a form = record { listed = listed W f a form; only = strict_listed W a.sound; language = strict_forms E W a.sound }
 
 -- a strict rule as numbers, from which it can be told
 
@@ -86,6 +85,13 @@ strict_kept W f a t = ∥∥₁_elim t (Coded-set (coded_list coded_rule) (in_ar
 -- the strict rules as they are lent
 pub strict_lent : (W : Book) (f : StrictForm) (l : List StrictRule) → l ≡ take f.strict.count f.strict.rules → ∥ Admitted W ∥₁ → ∥ FormOf W f ∥₁ → map strict_rule_of l ≡ strict_rules (binarised W)
 strict_lent W f l e a t = ap (map strict_rule_of) e ∙ strict_kept W f a t
+
+-- of rules with their strict form
+pub closed_converted : (E : Type 0) (c : Converted) → StrictRulesAre E (rules_book c.rules) (in_array c.form)
+closed_converted E c =
+    let W = rules_book c.rules in
+    let a = admitted_of W c.rules.admitted in
+    record { listed = strict_kept W c.form c.rules.admitted c.formed; only = strict_listed W a.sound; language = strict_forms E W a.sound }
 
 pub symbols_kept : (W : Book) (f : StrictForm) → ∥ FormOf W f ∥₁ → f.binarised.symbols ≡ (binarised W).symbols
 symbols_kept W f t = ∥∥₁_elim t (ℕ_set f.binarised.symbols (binarised W).symbols) (λ form. form.symbols)

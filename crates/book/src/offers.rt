@@ -2,14 +2,14 @@
 ghost use Rattle.std.specs.Prelude.{◌≡◌, ◌+◌, ◌<◌, ◌≤◌, [], map, length, take, nat_le};
 ghost use Rattle.grammar.specs.Lists.{some_of, same_numbers};
 ghost use Rattle.conversion.specs.Rows.{production_of, written};
-ghost use Rattle.conversion.specs.Binarised.{rows_book};
 ghost use Rattle.conversion.specs.Forms.{FormOf};
-ghost use Rattle.book.specs.Rules.{held, cost_of};
+ghost use Rattle.book.specs.Rules.{held, rules_book, cost_of};
 ghost use Rattle.book.specs.Offers.{same_rule, Offered};
 
+use crate::converted::Converted;
 use crate::fault::OfferFault;
 use crate::rules::Rules;
-use conversion::form::{StrictForm, convert};
+use conversion::form::convert;
 use conversion::production::Production;
 use conversion::productions::all_tails;
 
@@ -110,11 +110,13 @@ impl Rules {
         Ok(at)
     }
 
-    // The strict form of the rules held.
-    pub(crate) fn convert(&self) -> StrictForm
-        ensures { FormOf (rows_book (take self.now.count self.now.rows) self.now.patterns) result }
+    // The rules held with their strict form.
+    pub(crate) fn convert(self) -> Converted
+        ensures rules { result.rules ≡ self }
+        ensures formed { FormOf (rules_book result.rules) result.form }
     {
-        convert(&self.rows[0..self.count], self.patterns)
+        let form = convert(&self.rows[0..self.count], self.patterns);
+        Converted { rules: self, form }
     }
 
     // The cost of a rule, or 0 where there is none of that number.

@@ -3,4 +3,4 @@ use Rattle.book.proofs.Held.{many}
 use Rattle.book.proofs.books.ClosedBook.rule_count.Goals as goal
 
 pub returns : goal.returns
-returns g c = omega (arith, many c.args.self.now.rules)
+returns g c = omega (arith, many c.args.self.now.converted.rules)
