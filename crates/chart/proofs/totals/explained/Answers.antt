@@ -1,3 +1,4 @@
+use Rattle.std.proofs.Common.{arith}
 use Rattle.chart.specs.Events.{chart_book, chart_fits}
 use Rattle.chart.proofs.OfBook.{book_sound}
 use Rattle.chart.proofs.ByKind.{explained_by}
@@ -6,4 +7,5 @@ use Rattle.chart.proofs.totals.explained.Goals as goal
 pub returns : goal.returns
 returns g c test exact es h =
     let k = c.args.chart.now in
-    explained_by (chart_book k) (book_sound k.book.now) (chart_fits test k) es _ (cc (c.total-verdict.ensures.means test exact es h).is_total)
+    let total = (c.total.ensures.means test exact es h).is_total in
+    explained_by (chart_book k) (book_sound k.book.now) (chart_fits test k) es _ (cc total)
