@@ -10,7 +10,7 @@ ghost use Rattle.chart.specs.Charts.{over_event, over_parts};
 ghost use Rattle.chart.specs.Pairs.{pairs_sum, PairsWithin, PairAdded};
 ghost use Rattle.chart.specs.Columns.{SameColumn};
 
-use crate::cells::peek;
+use crate::cells::{add, peek};
 use crate::column::Column;
 use crate::pairs::{Pair, Pairs};
 use crate::weighed::WeighedRule;
@@ -37,10 +37,11 @@ impl<'t, 'p, A: Alphabet, W: Weighing> Column<'t, 'p, A, W> {
     {
         let end = self.end;
         let cell = self.cell(end, end - 1);
+        let symbols = self.symbols;
         let rules = self.rules;
         for weighed in rules {
             let weight = self.event_weight(weighed, event);
-            self.add(cell, weighed.rule.symbol, weight);
+            add::<W>(self.weights, symbols, cell, weighed.rule.symbol, weight);
         }
     }
 

@@ -1,5 +1,5 @@
 // How the column of an event is worked out.
-ghost use Rattle.std.specs.Prelude.{◌≡◌, ℕ, ◌+◌, ◌-◌, ◌<◌, ◌≤◌, List, [], ◌∷◌, ◌++◌, length, if◌then◌else◌, nat_eq, slice_index_or};
+ghost use Rattle.std.specs.Prelude.{◌≡◌, ℕ, ◌+◌, ◌-◌, ◌<◌, ◌≤◌, List, [], ◌∷◌, ◌++◌, length};
 ghost use Rattle.book.specs.Fits.{ForTests};
 ghost use Rattle.book.specs.Books.{closed_book, closed_fits};
 ghost use Rattle.chart.specs.Table.{column_place, cell_place, cell_at, SameOutside, Cleared, Added, AddedStarts};
@@ -7,7 +7,7 @@ ghost use Rattle.chart.specs.Charts.{over_event, over_parts, HoldsChart};
 ghost use Rattle.chart.specs.Pairs.{pairs_sum, PairsWithin};
 ghost use Rattle.chart.specs.Columns.{SameColumn};
 
-use crate::cells::{cell_place, column_place};
+use crate::cells::{add, cell_place, column_place, product};
 use crate::column::Column;
 use crate::pairs::{Pair, Pairs};
 use book::alphabet::Alphabet;
@@ -36,26 +36,6 @@ impl<'t, 'p, A: Alphabet, W: Weighing> Column<'t, 'p, A, W> {
         }
     }
 
-    // Adds to a symbol's weight in a cell.
-    pub(crate) fn add(&mut self, cell: usize, symbol: u8, more: W::Value)
-        requires symbol { symbol < self.old.symbols }
-        requires room { cell + self.old.symbols ≤ length self.old.weights.now }
-        ensures added { Added W.Weighing.ops self.old.symbols cell (λ x. (if nat_eq symbol x then more else W.Weighing.ops.zero)) self.old.weights.now self.new.weights.now }
-        ensures same { SameColumn self.old self.new }
-    {
-        let at = cell + symbol as usize;
-        let sum = W::plus(self.weights[at], more);
-        self.weights[at] = sum;
-    }
-
-    // The weight at a place times another.
-    fn product(&self, place: usize, weight: W::Value) -> W::Value
-        requires { place < length self.now.weights.now }
-        ensures { result ≡ W.Weighing.ops.times (slice_index_or self.now.weights.now place W.Weighing.ops.zero) weight }
-    {
-        W::times(self.weights[place], weight)
-    }
-
     // Adds to the cell of a start what the pairs of the right part come to over the left part, up to the middle. The sum of a run
     // of pairs of one symbol is written once.
     fn add_pairs(&mut self, pairs: &[Pair<W::Value>], middle: usize, start: usize)
@@ -67,20 +47,22 @@ impl<'t, 'p, A: Alphabet, W: Weighing> Column<'t, 'p, A, W> {
         let end = self.end;
         let cell = self.cell(end, start);
         let left = self.cell(middle, start);
+        let symbols = self.symbols;
+        let weights = &mut *self.weights;
         let mut symbol = 0;
         let mut sum = W::zero();
         for pair in pairs {
             if pair.symbol != symbol {
-                self.add(cell, symbol, sum);
+                add::<W>(weights, symbols, cell, symbol, sum);
                 symbol = pair.symbol;
                 sum = W::zero();
             }
             sum = W::plus(
                 sum,
-                self.product(left + pair.left as usize, pair.weight),
+                product::<W>(weights, left + pair.left as usize, pair.weight),
             );
         }
-        self.add(cell, symbol, sum);
+        add::<W>(weights, symbols, cell, symbol, sum);
     }
 
     // Adds to the cell of each start before the middle what the pairs of the right part come to.

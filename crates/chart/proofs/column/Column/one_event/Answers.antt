@@ -1,4 +1,4 @@
-use Rattle.std.proofs.Common.{◌≡◌, ◌+◌, ◌-◌, cond, eqb, subst, arith}
+use Rattle.std.proofs.Common.{◌≡◌, ◌+◌, ◌-◌, cond, ◌∙◌, subst, arith}
 use Rattle.grammar.specs.Cells.{terminal_fits}
 use Rattle.conversion.specs.Views.{right_side_of}
 use Rattle.book.specs.Books.{closed_book, closed_fits}
@@ -7,7 +7,7 @@ use Rattle.chart.specs.Charts.{over_event}
 use Rattle.chart.proofs.OfBook.{weighs_of, book_sound}
 use Rattle.chart.proofs.RuleSums.{symbol_within, weighed_many}
 use Rattle.chart.proofs.Outside.{same_all, same_then}
-use Rattle.chart.proofs.SameColumns.{same_column, same_after}
+use Rattle.chart.proofs.SameColumns.{same_column}
 use Rattle.chart.proofs.EventSums.{events_none, events_more, events_all}
 use Rattle.chart.proofs.column.Column.one_event.Goals as goal
 
@@ -27,10 +27,10 @@ add-requires-clause-symbol g c =
     let k = c.args.self.now in
     let W = closed_book k.book.now in
     let s = symbol_within W (book_sound k.book.now) M k.rules.now c.loop-weighed.weighed-index c.weighed-item.result (weighs_of g.row.W-Value.coded M W k.rules.now k.weighed) c.loop-weighed-test.true c.weighed-item.is in
-    omega (arith, s, k.counts, c.loop-weighed.invariant.same.symbols)
+    omega (arith, s, k.counts)
 
 pub add-requires-clause-room : goal.add-requires-clause-room
-add-requires-clause-room g c = omega (arith, c.cell-cell.ensures.room, c.loop-weighed.invariant.same.symbols, c.loop-weighed.invariant.same.long)
+add-requires-clause-room g c = omega (arith, c.cell-cell.ensures.room, c.loop-weighed.invariant.same.long)
 
 pub loop-weighed-preserved : goal.loop-weighed-preserved
 loop-weighed-preserved g c =
@@ -40,18 +40,17 @@ loop-weighed-preserved g c =
     let cell = c.cell-cell.result in
     let w = c.weighed-item.result in
     let mid = c.loop-weighed.self in
-    let is = c.add.new.self in
+    let is = c.add.new.weights in
     let v = c.event_weight-weight.result in
     let same = c.loop-weighed.invariant.same in
-    let added = subst (λ s. Added M s cell (λ x. cond (eqb w.rule.symbol x) v M.zero) mid.weights.now is.weights.now) same.symbols c.add.ensures.added in
     record {
-      outside = same_then M.zero cell (cell + k.symbols) k.weights.now mid.weights.now is.weights.now c.loop-weighed.invariant.outside added.0;
+      outside = same_then M.zero cell (cell + k.symbols) k.weights.now mid.weights.now is c.loop-weighed.invariant.outside c.add.ensures.0;
       events = λ test exact. events_more W M g.met.W.Weighing.semiring (closed_fits test k.book.now) c.args.event k.symbols cell
-          k.rules.now c.loop-weighed.weighed-index w v k.weights.now mid.weights.now is.weights.now
+          k.rules.now c.loop-weighed.weighed-index w v k.weights.now mid.weights.now is
           (weighs_of g.row.W-Value.coded M W k.rules.now k.weighed) c.loop-weighed-test.true c.weighed-item.is
           (subst (λ b. v ≡ cond (terminal_fits (closed_fits test b.now) c.args.event (right_side_of w.rule.right)) w.weight M.zero) same.book (c.event_weight-weight.ensures test exact))
-          added (c.loop-weighed.invariant.events test exact);
-      same = same_after k mid is same c.add.ensures.same;
+          c.add.ensures (c.loop-weighed.invariant.events test exact);
+      same = record { book = same.book; rules = same.rules; symbols = same.symbols; end = same.end; long = c.add.auto.weights ∙ same.long; table = same.table };
     }
 
 pub returns : goal.returns
