@@ -126,9 +126,7 @@ impl<'b, 'p, 't, A: Alphabet, W: Weighing> Chart<'b, 'p, 't, A, W> {
         if self.events == 0 {
             return empty_total::<A, W>(self.book);
         }
-        peek::<W>(
-            self.weights,
-            column_place(self.book.symbols(), self.events),
-        )
+        let place = column_place(self.book.symbols(), self.events);
+        peek::<W>(self.weights, place)
     }
 }

@@ -21,12 +21,14 @@ pub fn explained<A: Alphabet>(chart: &Chart<A, YesNo>) -> bool
 pub fn readings<A: Alphabet>(chart: &Chart<A, Count>) -> u32
     ensures { ForTests A.Alphabet.fits (λ test. (es : List A.Event) → Holds counts test chart.now es → CountsReadings (chart_book chart.now) (chart_fits test chart.now) 4294967295 es result) }
 {
-    chart.total().value()
+    let count = chart.total();
+    count.value()
 }
 
 // What the cheapest plain reading of the events held costs; 4294967295 stands for none, or this and more.
 pub fn least_cost<A: Alphabet>(chart: &Chart<A, LeastCost>) -> u32
     ensures { ForTests A.Alphabet.fits (λ test. (es : List A.Event) → Holds least_costs test chart.now es → IsLeastCost (chart_book chart.now) (chart_fits test chart.now) 4294967295 es result) }
 {
-    chart.total().value()
+    let cost = chart.total();
+    cost.value()
 }
