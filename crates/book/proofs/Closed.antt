@@ -1,5 +1,5 @@
 -- What a closed book has.
-use Rattle.std.proofs.Common.{◌≡◌, ℕ, List, [], ◌∷◌, map, get_or, take, refl, ap, ◌∙◌, arith}
+use Rattle.std.proofs.Common.{◌≡◌, ℕ, List, [], ◌∷◌, map, get_or, refl, ap, ◌∙◌, arith}
 use mathlib.Core.Logic.{∥∥₁_elim}
 use native.Mathlib.Nat.{ℕ_set}
 use base.Stored.{Coded, coded_ℕ, coded_list, coded_via, Coded-set}
@@ -19,9 +19,9 @@ use Rattle.book.specs.Rules.{rules_book}
 use Rattle.book.specs.Books.{StrictRulesAre}
 use Rattle.book.proofs.Props.{admitted_of}
 
--- the strict rules in the array
+-- the strict rules that the form holds
 abbrev in_array : StrictForm → List StrictFormRule
-in_array f = map strict_rule_of (take f.strict.count f.strict.rules)
+in_array f = map strict_rule_of f.strict.rules.items
 
 -- they are all of them, since these fit
 pub listed : (W : Book) (f : StrictForm) → Admitted W → FormOf W f → in_array f ≡ strict_rules (binarised W)
@@ -83,7 +83,7 @@ pub strict_kept : (W : Book) (f : StrictForm) → ∥ Admitted W ∥₁ → ∥ 
 strict_kept W f a t = ∥∥₁_elim t (Coded-set (coded_list coded_rule) (in_array f) (strict_rules (binarised W))) (λ form. listed W f (admitted_of W a) form)
 
 -- the strict rules as they are lent
-pub strict_lent : (W : Book) (f : StrictForm) (l : List StrictRule) → l ≡ take f.strict.count f.strict.rules → ∥ Admitted W ∥₁ → ∥ FormOf W f ∥₁ → map strict_rule_of l ≡ strict_rules (binarised W)
+pub strict_lent : (W : Book) (f : StrictForm) (l : List StrictRule) → l ≡ f.strict.rules.items → ∥ Admitted W ∥₁ → ∥ FormOf W f ∥₁ → map strict_rule_of l ≡ strict_rules (binarised W)
 strict_lent W f l e a t = ap (map strict_rule_of) e ∙ strict_kept W f a t
 
 -- of rules with their strict form

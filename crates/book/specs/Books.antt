@@ -1,5 +1,5 @@
 -- What books hold.
-use Rattle.std.specs.Prelude.{◌≡◌, ℕ, ◌<◌, ◌≤◌, Bool, List, map, length, take, Some, None, Option, slice_index_or}
+use Rattle.std.specs.Prelude.{◌≡◌, ℕ, ◌<◌, ◌≤◌, Bool, List, map, length, Some, None, Option, slice_index_or}
 use Rattle.grammar.specs.Productions.{Production, Book}
 use Rattle.grammar.specs.Binarise.{binarised}
 use Rattle.grammar.specs.Strict.{StrictFormRule, strict_rules}
@@ -29,7 +29,7 @@ closed_fits test b = table_fits test b.table.patterns.now
 
 -- the strict rules that a closed book has
 abbrev pub closed_strict : {A E P : Type 0} {G : Ghosts A E P} → ClosedBook A E P G → List StrictFormRule
-closed_strict b = map strict_rule_of (take b.converted.form.strict.count b.converted.form.strict.rules)
+closed_strict b = map strict_rule_of b.converted.form.strict.rules.items
 
 -- what the strict rules of a book are: those of the definition, in their order; the list of the strict rules, and the only one; and
 -- for any test of events, a grammar in strict Chomsky form whose language is the book's without the empty trace

@@ -61,8 +61,8 @@ impl Converted {
         self.form.brought(symbol)
     }
 
-    // The chosen chain from one symbol to another.
-    pub fn chain(&self, from: u8, to: u8) -> Chain
+    // The chosen chain from one symbol to another, if one leads there.
+    pub fn chain(&self, from: u8, to: u8) -> Option<Chain>
         ensures { from < 128 → to < 128 → Chosen (binarised (rules_book self.now.rules)) from to result }
     {
         self.form.chain(from, to)

@@ -19,13 +19,13 @@ use weighing::weighing::Weighing;
 
 impl<'c, W: Weighing> Blanks<'c, W> {
     // The weight of what a unit step drops.
-    fn dropped_weight(&self, dropped: Dropped) -> W::Value
+    fn dropped_weight(&self, dropped: Option<Dropped>) -> W::Value
         ensures { result ≡ dropped_weight W.Weighing.ops (W.Values.Bank.item self.now.bank.now) (drop_of dropped) }
     {
         match dropped {
-            Dropped::Nothing => W::one(),
-            Dropped::Right(z) => self.bank.get(z as usize),
-            Dropped::Left(y) => self.bank.get(y as usize),
+            None => W::one(),
+            Some(Dropped::Right(z)) => self.bank.get(z as usize),
+            Some(Dropped::Left(y)) => self.bank.get(y as usize),
         }
     }
 
@@ -46,7 +46,7 @@ impl<'c, W: Weighing> Blanks<'c, W> {
     {
         let mut product = W::one();
         let mut at = from;
-        while let Chain::Steps(_, step) = self.converted.chain(at, to) {
+        while let Some(Chain::Steps(_, step)) = self.converted.chain(at, to) {
             product = W::times(product, self.step_weight(step));
             at = step.to;
         }

@@ -1,6 +1,5 @@
 // Strict rules, each with its weight.
 use arrayvec::ArrayVec;
-use conversion::right::Right;
 use conversion::strict::StrictRule;
 use std::default::MadeWith;
 
@@ -15,12 +14,7 @@ pub(crate) struct WeighedRule<V> {
 impl<V: Copy> MadeWith<V> for WeighedRule<V> {
     fn made_with(zero: V) -> WeighedRule<V> {
         WeighedRule {
-            rule: StrictRule {
-                symbol: 0,
-                end: 0,
-                number: 0,
-                right: Right::Empty,
-            },
+            rule: StrictRule::default(),
             weight: zero,
         }
     }

@@ -1,4 +1,4 @@
-use Rattle.std.proofs.Common.{◌≡◌, ◌-◌, take, subst, arith}
+use Rattle.std.proofs.Common.{sym, subst}
 use Rattle.grammar.specs.Productions.{Sound}
 use Rattle.conversion.specs.Binarised.{rows_book}
 use Rattle.book.specs.Rules.{rules_book}
@@ -8,5 +8,4 @@ use Rattle.book.proofs.rules.Rules.convert.Goals as goal
 pub convert-form-requires : goal.convert-form-requires
 convert-form-requires c =
     let b = c.args.self in
-    let n : b.count ≡ b.count - 0 = omega arith in
-    subst (λ k. Sound (rows_book (take k b.rows) b.patterns)) n (admitted_of (rules_book b) b.admitted).sound
+    subst (λ rows. Sound (rows_book rows b.patterns)) (sym c.deref.ensures.0) (admitted_of (rules_book b) b.admitted).sound

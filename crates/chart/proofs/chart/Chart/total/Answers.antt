@@ -21,6 +21,6 @@ returns-clause-means g c test exact es h =
     let fits = chart_fits test k in
     let M = g.W.Weighing.ops in
     let L = g.met.W.Weighing.semiring in
-    let cell = total_cell W (book_sound k.book.now) M L fits es k.weights.now c.symbols.result k.events c.column_place.result c.peek.result
-    c.symbols.ensures.means (omega (arith, c.symbols.ensures.means, c.symbols.ensures.least)) h.many (omega (arith, c.if-self-eq0.false)) c.column_place.ensures h.chart c.peek.ensures in
+    let cell = total_cell W (book_sound k.book.now) M L fits es k.weights.now c.symbols.result k.events c.column_place-place.result c.peek.result
+    c.symbols.ensures.means (omega (arith, c.symbols.ensures.means, c.symbols.ensures.least)) h.many (omega (arith, c.if-self-eq0.false)) c.column_place-place.ensures h.chart c.peek.ensures in
     total_is W (book_sound k.book.now) M L fits es _ (cc)
