@@ -1,5 +1,5 @@
 -- Sums over the strict rules of a book, rule by rule.
-use Rattle.std.proofs.Common.{◌≡◌, ℕ, ◌<◌, Bool, true, cond, eqb, List, map, length, get_or, sym, ap, ◌∙◌, subst, arith}
+use Rattle.std.proofs.Common.{◌≡◌, ℕ, ◌<◌, Bool, true, cond, eqb, List, length, get_or, sym, ap, ◌∙◌, subst, arith}
 use Rattle.std.proofs.lemmas.List.{get_or-map, length-map}
 use Rattle.grammar.specs.Lists.{Mem, those}
 use Rattle.grammar.specs.Semiring.{Ops, Semiring, sum}

@@ -1,5 +1,5 @@
 -- A column stays the same over steps of its work.
-use Rattle.std.proofs.Common.{◌≡◌, ℕ, refl, ◌∙◌, subst}
+use Rattle.std.proofs.Common.{ℕ, refl, ◌∙◌, subst}
 use Rattle.book.specs.declared.alphabet.Alphabet.{Ghosts}
 use Rattle.weighing.specs.declared.weighing.Weighing.{Ghosts as Weighings}
 use Rattle.weighing.specs.declared.bank.Bank.{Ghosts as Banks}

@@ -28,11 +28,7 @@ pub(crate) fn peek<W: Weighing>(weights: &[W::Value], place: usize) -> W::Value
 }
 
 // The weight at a place times another.
-pub(crate) fn product<W: Weighing>(
-    weights: &[W::Value],
-    place: usize,
-    weight: W::Value,
-) -> W::Value
+pub(crate) fn product<W: Weighing>(weights: &[W::Value], place: usize, weight: W::Value) -> W::Value
     requires { place < length weights.now }
     ensures { result ≡ W.Weighing.ops.times (slice_index_or weights.now place W.Weighing.ops.zero) weight }
 {

@@ -39,12 +39,7 @@ fn right_weight<W: Weighing>(bank: &W::Values, right: Right) -> W::Value
 }
 
 // The weight of the derivation of nothing that the chosen rule gives.
-fn brought_weight<W: Weighing>(
-    bank: &W::Values,
-    rules: &Rules,
-    symbol: u8,
-    by: Brought,
-) -> W::Value
+fn brought_weight<W: Weighing>(bank: &W::Values, rules: &Rules, symbol: u8, by: Brought) -> W::Value
     ensures { result ≡ W.Weighing.ops.times (binarised_weight (rules_book rules.now) W.Weighing.ops symbol by.number) (right_weight W.Weighing.ops (W.Values.Bank.item bank.now) (right_side_of by.right)) }
 {
     W::times(

@@ -1,4 +1,4 @@
-use Rattle.std.proofs.Common.{List, [], ◌∷◌, ◌++◌, sym, subst, rules}
+use Rattle.std.proofs.Common.{[], ◌∷◌, ◌++◌, sym, subst, rules}
 use denote.Param.{layout}
 use Rattle.book.specs.Books.{closed_book, closed_fits}
 use Rattle.chart.specs.Charts.{HoldsChart}

@@ -1,4 +1,3 @@
-use Rattle.std.proofs.Common.{arith}
 use Rattle.chart.specs.Events.{chart_book, chart_fits}
 use Rattle.chart.proofs.OfBook.{book_sound}
 use Rattle.chart.proofs.ByKind.{explained_by}

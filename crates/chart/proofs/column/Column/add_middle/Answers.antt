@@ -1,4 +1,4 @@
-use Rattle.std.proofs.Common.{ℕ, ap, ◌∙◌, subst, arith}
+use Rattle.std.proofs.Common.{ℕ, ap, ◌∙◌, subst}
 use denote.Param.{layout}
 use Rattle.grammar.specs.Lists.{Mem}
 use Rattle.book.specs.Books.{closed_book}

@@ -1,4 +1,4 @@
-use Rattle.std.proofs.Common.{◌≡◌, length, sym, refl, ◌∙◌, subst, arith}
+use Rattle.std.proofs.Common.{◌≡◌, sym, refl, ◌∙◌, subst, arith}
 use Rattle.chart.specs.Pairs.{pairs_sum}
 use Rattle.chart.specs.Table.{cell_place, cell_at, Added}
 use Rattle.chart.proofs.Places.{cell_before}

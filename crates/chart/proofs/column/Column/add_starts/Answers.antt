@@ -31,7 +31,7 @@ loop-start-preserved g c =
     let i = c.loop-start.start in
     let same = c.loop-start.invariant.same in
     let added = as_before k mid same
-        (λ b s e. Added M s (cell_place s e i) (λ x. pairs_sum M (cell_at M mid.weights.now (cell_place s c.args.middle i)) x ps) mid.weights.now is.weights.now) c.add_pairs.ensures.added in
+    (λ b s e. Added M s (cell_place s e i) (λ x. pairs_sum M (cell_at M mid.weights.now (cell_place s c.args.middle i)) x ps) mid.weights.now is.weights.now) c.add_pairs.ensures.added in
     record {
       starts = one_start M g.met.W.Weighing.semiring k.symbols k.end c.args.middle ps c.requires.within i k.weights.now mid.weights.now is.weights.now
           (omega (arith, c.loop-start-test.true)) c.requires.part added c.loop-start.invariant.starts;

@@ -43,8 +43,8 @@ loop-middle-preserved g c =
     let begun = same_after k c.clear.new.self first c.clear.ensures.same c.one_event.ensures.same in
     let same = c.loop-middle.invariant.same in
     let added = as_before k mid same
-        (λ b s e. AddedStarts M s e (m - 1) (λ i. over_parts (closed_book b) M (cell_at M mid.weights.now (cell_place s (m - 1) i)) (cell_at M mid.weights.now (cell_place s e (m - 1)))) mid.weights.now is.weights.now)
-        c.add_middle.ensures.added in
+    (λ b s e. AddedStarts M s e (m - 1) (λ i. over_parts (closed_book b) M (cell_at M mid.weights.now (cell_place s (m - 1) i)) (cell_at M mid.weights.now (cell_place s e (m - 1)))) mid.weights.now is.weights.now)
+    c.add_middle.ensures.added in
     record {
       outside = outside_more M.zero k.symbols k.end (m - 1) first.weights.now mid.weights.now is.weights.now
           (omega (arith, c.loop-middle-test.true, c.loop-middle.auto.middle, begun.end)) c.loop-middle.invariant.outside added.0;
@@ -63,7 +63,7 @@ returns g c =
     let first = c.one_event.new.self in
     let is = c.loop-middle.self in
     let one = as_before k blank c.clear.ensures.same
-        (λ b s e. SameOutside M.zero (cell_place s e (e - 1)) (cell_place s e (e - 1) + s) blank.weights.now first.weights.now) c.one_event.ensures.outside in
+    (λ b s e. SameOutside M.zero (cell_place s e (e - 1)) (cell_place s e (e - 1) + s) blank.weights.now first.weights.now) c.one_event.ensures.outside in
     record {
       outside = outside_all M.zero k.symbols k.end k.weights.now blank.weights.now first.weights.now is.weights.now k.some c.clear.ensures.cleared.0 one c.loop-middle.invariant.outside;
       chart = λ test exact. middles_all W (book_sound k.book.now) M g.met.W.Weighing.semiring (closed_fits test k.book.now) k.symbols k.end

@@ -1,4 +1,4 @@
-use Rattle.std.proofs.Common.{ℕ, ◌<◌, subst, arith}
+use Rattle.std.proofs.Common.{◌<◌, subst, arith}
 use denote.Param.{layout}
 use Rattle.book.specs.Books.{closed_book}
 use Rattle.chart.specs.Table.{cell_at}
