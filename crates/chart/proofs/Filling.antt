@@ -28,15 +28,15 @@ outside_more d s e k first was is h before now =
     (same_wider d (column_place s e) (cell_place s e k) (column_place s e) (column_place s (e + 1)) was is (omega arith) (omega (arith, cell_within s e k h)) now)
 
 -- so do the clearing of the column, the writes to its last cell, and the rest
-pub outside_all : {V : Type 0} (d : V) (s e from to last : ℕ) (was mid first is : List V) → 0 < e → from ≡ column_place s e → to ≡ column_place s (e + 1) → last ≡ cell_place s e (e - 1)
-    → SameOutside d from to was mid → SameOutside d last (last + s) mid first → SameOutside d (column_place s e) (column_place s (e + 1)) first is
-    → SameOutside d (column_place s e) (column_place s (e + 1)) was is
-outside_all d s e from to last was mid first is he f t l cleared one rest =
+pub outside_all : {V : Type 0} (d : V) (s e : ℕ) (was mid first is : List V) → 0 < e
+    → SameOutside d (column_place s e) (column_place s (e + 1)) was mid → SameOutside d (cell_place s e (e - 1)) (cell_place s e (e - 1) + s) mid first
+    → SameOutside d (column_place s e) (column_place s (e + 1)) first is → SameOutside d (column_place s e) (column_place s (e + 1)) was is
+outside_all d s e was mid first is he cleared one rest =
     let a = column_place s e in
     let b = column_place s (e + 1) in
-    let zeros = subst (λ m. SameOutside d a m was mid) t (subst (λ m. SameOutside d m to was mid) f cleared) in
+    let last = cell_place s e (e - 1) in
     same_then d a b was first is
-    (same_then d a b was mid first zeros (same_wider d last (last + s) a b mid first (omega (arith, l)) (omega (arith, l, cell_within s e (e - 1) (omega arith))) one)) rest
+    (same_then d a b was mid first cleared (same_wider d last (last + s) a b mid first (omega arith) (omega (arith, cell_within s e (e - 1) (omega arith))) one)) rest
 
 -- numbers from i + a on
 count_up_from : (i a n : ℕ) → count_up (i + a) n ≡ map (λ m. i + m) (count_up a n)
@@ -175,32 +175,23 @@ module _ {V E : Type 0} (W : Book) (sound : Sound W) (M : Ops V) (L : Semiring M
       ))
 
   -- the column, cleared, with the cell over its event alone, and then all middles
-  pub middles_all : (s e k from to last : ℕ) (event : E) (was mid first is : List V) → s ≡ S → 0 < e → k ≤ 1 → column_place s (e + 1) ≤ length is
-      → from ≡ column_place s e → to ≡ column_place s (e + 1) → last ≡ cell_place s e (e - 1)
-      → Cleared M from to was mid → Added M s last (over_event W M fits event) mid first → Middles s e k first is
-      → SameOutside M.zero (column_place s e) (column_place s (e + 1)) was is
-      × ((es : List E) → length es + 1 ≡ e → HoldsChart W M fits es was → HoldsChart W M fits (es ++ (event ∷ [])) is)
-  middles_all s e k from to last event was mid first is q he hk room f t l cleared added inv =
-      let zeros : Cleared M (column_place s e) (column_place s (e + 1)) was mid = subst (λ b. Cleared M (column_place s e) b was mid) t (subst (λ a. Cleared M a to was mid) f cleared) in
-      let one : Added M s (cell_place s e (e - 1)) (over_event W M fits event) mid first = subst (λ a. Added M s a (over_event W M fits event) mid first) l added in
+  pub middles_all : (s e k : ℕ) (event : E) (was mid first is : List V) → s ≡ S → 0 < e → k ≤ 1 → column_place s (e + 1) ≤ length is
+      → Cleared M (column_place s e) (column_place s (e + 1)) was mid → Added M s (cell_place s e (e - 1)) (over_event W M fits event) mid first → Middles s e k first is
+      → (es : List E) → length es + 1 ≡ e → HoldsChart W M fits es was → HoldsChart W M fits (es ++ (event ∷ [])) is
+  middles_all s e k event was mid first is q he hk =
       subst (λ n. column_place n (e + 1) ≤ length is → Cleared M (column_place n e) (column_place n (e + 1)) was mid → Added M n (cell_place n e (e - 1)) (over_event W M fits event) mid first → Middles n e k first is
-      → SameOutside M.zero (column_place n e) (column_place n (e + 1)) was is
-      × ((es : List E) → length es + 1 ≡ e → HoldsChart W M fits es was → HoldsChart W M fits (es ++ (event ∷ [])) is)) (sym q) whole room zeros one inv
+      → (es : List E) → length es + 1 ≡ e → HoldsChart W M fits es was → HoldsChart W M fits (es ++ (event ∷ [])) is) (sym q) whole
     where
       whole : column_place S (e + 1) ≤ length is → Cleared M (column_place S e) (column_place S (e + 1)) was mid → Added M S (cell_place S e (e - 1)) (over_event W M fits event) mid first → Middles S e k first is
-          → SameOutside M.zero (column_place S e) (column_place S (e + 1)) was is
-          × ((es : List E) → length es + 1 ≡ e → HoldsChart W M fits es was → HoldsChart W M fits (es ++ (event ∷ [])) is)
-      whole long zeros one inv =
+          → (es : List E) → length es + 1 ≡ e → HoldsChart W M fits es was → HoldsChart W M fits (es ++ (event ∷ [])) is
+      whole long zeros one inv es n chart =
           let a = column_place S e in
           let b = column_place S (e + 1) in
           let begun = same_then M.zero a b was mid first zeros.0
-          (same_wider M.zero (cell_place S e (e - 1)) (cell_place S e (e - 1) + S) a b mid first (omega arith) (omega (arith, cell_within S e (e - 1) (omega arith))) one.0) in (
-            same_then M.zero a b was first is begun inv.0,
-            λ es n chart.
-                let ev : List E = es ++ (event ∷ []) in
-                let many : length ev ≡ e = length_push es event ∙ n in
-                let before : ColumnsBefore ev e was = subst (λ m. ColumnsBefore ev m was) n (before_pushed es event was chart) in
-                let before-first = before_kept ev e b was first begun before in
-                filled_all ev e k is many hk long (before_kept ev e b first is inv.0 before-first)
-                (inv.1 ev many before-first (filled_first ev e event was mid first he many (get_or_push es event event (e - 1) (omega arith)) zeros one)),
-          )
+          (same_wider M.zero (cell_place S e (e - 1)) (cell_place S e (e - 1) + S) a b mid first (omega arith) (omega (arith, cell_within S e (e - 1) (omega arith))) one.0) in
+          let ev : List E = es ++ (event ∷ []) in
+          let many : length ev ≡ e = length_push es event ∙ n in
+          let before : ColumnsBefore ev e was = subst (λ m. ColumnsBefore ev m was) n (before_pushed es event was chart) in
+          let before-first = before_kept ev e b was first begun before in
+          filled_all ev e k is many hk long (before_kept ev e b first is inv.0 before-first)
+          (inv.1 ev many before-first (filled_first ev e event was mid first he many (get_or_push es event event (e - 1) (omega arith)) zeros one))

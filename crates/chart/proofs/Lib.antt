@@ -1,7 +1,6 @@
 pub mod Outside
 pub mod Places
 pub mod NullableWeights
-pub mod Kept
 pub mod StrictWeights
 pub mod SumLaws
 pub mod Adding
@@ -15,3 +14,4 @@ pub mod PairAdding
 pub mod Filling
 pub mod Totalling
 pub mod ByKind
+pub mod SameColumns

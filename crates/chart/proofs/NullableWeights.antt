@@ -1,5 +1,5 @@
 -- The weights of the chosen trees without events, as the rounds find them.
-use Rattle.std.proofs.Common.{◌≡◌, ℕ, suc, ◌+◌, ◌<◌, ◌≤◌, Bool, true, false, cond, eqb, ltb, [], get_or, Some, None, Option, sym, ap, ◌∙◌, subst, ap₂, inl, inr, arith}
+use Rattle.std.proofs.Common.{◌≡◌, ℕ, suc, ◌+◌, ◌<◌, ◌≤◌, Bool, true, false, cond, eqb, ltb, [], Some, None, sym, ap, ◌∙◌, subst, ap₂, inl, inr, arith}
 use Rattle.std.proofs.lemmas.Bool.{both_ways, false≢true, cases_lt, cases_eq, cases_Bool, lt-ltb, le-ltb, eq-eqb, ne_eqb, and_parts, cond-true, cond-false}
 use Rattle.grammar.specs.Semiring.{Ops, Semiring}
 use Rattle.grammar.specs.Productions.{Book, Sound}
@@ -12,9 +12,8 @@ use Rattle.grammar.proofs.Sums.{times_one_right}
 use Rattle.grammar.proofs.Nullable.{rounds_grow, rounds_small}
 use Rattle.grammar.proofs.BinarisedRules.{binarised_bounded, binarised_size}
 use Rattle.conversion.specs.declared.nullable.Brought.{Brought}
-use Rattle.conversion.specs.declared.nullable.Nullable.{Nullable}
 use Rattle.conversion.specs.Views.{right_side_of}
-use Rattle.conversion.specs.Held.{Brings, BroughtIn, Nullables}
+use Rattle.conversion.specs.Held.{Brings, BroughtIn}
 use Rattle.conversion.proofs.Bringing.{held_on, held_last}
 use Rattle.conversion.proofs.Walking.{brings_ready, brings_tree}
 use Rattle.chart.specs.Weights.{blank_weight, right_weight, WeightsAfter, NullableWeights}
@@ -122,18 +121,15 @@ module _ {V : Type 0} (M : Ops V) (L : Semiring M) (W : Book) (S : Sound W) wher
   ])
 
 -- a turn of round k, at the symbol s, by what the table says of it
-module _ {V T : Type 0} (M : Ops V) (L : Semiring M) (W : Book) (S : Sound W) (n : Nullable) (N : Nullables (binarised W) n) (item : T → ℕ → V) (k s : ℕ) (was is : T) (amid : AmidRound M W k s (item was)) where
-  told : (o : Option Brought) → o ≡ get_or n.brought s None → BroughtIn (binarised W) s o
-  told o e = subst (BroughtIn (binarised W) s) (sym e) (N s)
+module _ {V T : Type 0} (M : Ops V) (L : Semiring M) (W : Book) (S : Sound W) (item : T → ℕ → V) (k s : ℕ) (was is : T) (amid : AmidRound M W k s (item was)) where
+  pub turn_none : BroughtIn (binarised W) s None → is ≡ was → AmidRound M W k (s + 1) (item is)
+  turn_none never same = subst (λ b. AmidRound M W k (s + 1) (item b)) (sym same) (round_none M L W S k s (item was) never amid)
 
-  pub turn_none : None ≡ get_or n.brought s None → is ≡ was → AmidRound M W k (s + 1) (item is)
-  turn_none e same = subst (λ b. AmidRound M W k (s + 1) (item b)) (sym same) (round_none M L W S k s (item was) (told None e) amid)
+  pub turn_other : (b : Brought) → BroughtIn (binarised W) s (Some b) → (b.round ≡ k → ⊥) → is ≡ was → AmidRound M W k (s + 1) (item is)
+  turn_other b brought ne same = subst (λ b. AmidRound M W k (s + 1) (item b)) (sym same) (round_other M L W S k s (item was) b brought ne amid)
 
-  pub turn_other : (b : Brought) → Some b ≡ get_or n.brought s None → (b.round ≡ k → ⊥) → is ≡ was → AmidRound M W k (s + 1) (item is)
-  turn_other b e ne same = subst (λ b. AmidRound M W k (s + 1) (item b)) (sym same) (round_other M L W S k s (item was) b (told (Some b) e) ne amid)
-
-  pub turn_more : (b : Brought) → Some b ≡ get_or n.brought s None → b.round ≡ k → (size : ℕ) → 128 ≤ size
+  pub turn_more : (b : Brought) → BroughtIn (binarised W) s (Some b) → b.round ≡ k → (size : ℕ) → 128 ≤ size
       → (v : V) → v ≡ M.times (binarised_weight W M s b.number) (right_weight M (item was) (right_side_of b.right))
       → (put : T) → ((j : ℕ) → j < size → item put j ≡ cond (eqb j s) v (item was j)) → is ≡ put → AmidRound M W k (s + 1) (item is)
-  turn_more b e now size wide v weighs put puts same =
-      subst (λ b. AmidRound M W k (s + 1) (item b)) (sym same) (round_more M L W S k s size (item was) (item put) b v (told (Some b) e) now wide weighs puts amid)
+  turn_more b brought now size wide v weighs put puts same =
+      subst (λ b. AmidRound M W k (s + 1) (item b)) (sym same) (round_more M L W S k s size (item was) (item put) b v brought now wide weighs puts amid)

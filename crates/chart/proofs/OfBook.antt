@@ -1,25 +1,39 @@
--- What a closed book says of its strict rules.
-use Rattle.std.proofs.Common.{◌≡◌, ◌≤◌, List, map, length, ap, ◌∙◌}
-use Rattle.grammar.specs.Productions.{Sound}
+-- What a closed book, and what is made of it, says of its strict rules.
+use Rattle.std.proofs.Common.{◌≡◌, ℕ, ◌≤◌, List, length}
+use mathlib.Core.Logic.{∥∥₁_elim}
+use base.Stored.{Coded, coded_list, Coded-set}
+use Rattle.grammar.specs.Semiring.{Ops}
+use Rattle.grammar.specs.Productions.{Book, Sound}
 use Rattle.grammar.specs.Binarise.{binarised}
 use Rattle.grammar.specs.Strict.{strict_rules}
-use Rattle.conversion.specs.Views.{strict_rule_of}
-use Rattle.conversion.specs.declared.form.StrictForm.{StrictForm}
-use Rattle.conversion.specs.declared.strict.StrictRule.{StrictRule}
+use Rattle.book.specs.declared.rules.Rules.{Rules}
 use Rattle.book.specs.declared.alphabet.Alphabet.{Ghosts}
 use Rattle.book.specs.declared.books.ClosedBook.{ClosedBook}
 use Rattle.book.specs.Books.{closed_book}
-use Rattle.book.proofs.Closed.{strict_kept}
+use Rattle.book.proofs.Closed.{coded_rule}
 use Rattle.book.proofs.Props.{admitted_of}
+use Rattle.chart.specs.declared.weighed.WeighedRule.{WeighedRule}
+use Rattle.chart.specs.Weights.{rules_book, NullableWeights, Weighs}
 
-module _ {A E P : Type 0} {G : Ghosts A E P} (b : ClosedBook A E P G) where
-  -- the rules that its form has are its strict rules
-  pub rules_are : (f : StrictForm) (l : List StrictRule) → f ≡ b.converted.form → l ≡ f.strict.rules.items → map strict_rule_of l ≡ strict_rules (binarised (closed_book b))
-  rules_are f l e k = ap (map strict_rule_of) (k ∙ ap (λ (q : StrictForm). q.strict.rules.items) e) ∙ strict_kept (closed_book b) b.converted.form b.converted.rules.admitted b.converted.formed
+pub rules_sound : (r : Rules) → Sound (rules_book r)
+rules_sound r = (admitted_of (rules_book r) r.admitted).sound
 
-  -- they are few
-  pub rules_few : length (strict_rules (binarised (closed_book b))) ≤ 1024
-  rules_few = (admitted_of (closed_book b) b.converted.rules.admitted).few_strict
+pub rules_few : (r : Rules) → length (strict_rules (binarised (rules_book r))) ≤ 1024
+rules_few r = (admitted_of (rules_book r) r.admitted).few_strict
 
-  pub book_sound : Sound (closed_book b)
-  book_sound = (admitted_of (closed_book b) b.converted.rules.admitted).sound
+pub book_sound : {A E P : Type 0} {G : Ghosts A E P} (b : ClosedBook A E P G) → Sound (closed_book b)
+book_sound b = rules_sound b.converted.rules
+
+-- facts of which a type keeps only the existence, as they are
+module _ {V : Type 0} (code : Coded V) (M : Ops V) (W : Book) where
+  weighs_prop : (rs : List (WeighedRule V)) (a b : Weighs M W rs) → a ≡ b
+  weighs_prop rs a b = λ i. record {
+    rules = Coded-set (coded_list coded_rule) _ _ a.rules b.rules i;
+    weights = λ r m. Coded-set code _ _ (a.weights r m) (b.weights r m) i;
+  }
+
+  pub weighs_of : (rs : List (WeighedRule V)) → ∥ Weighs M W rs ∥₁ → Weighs M W rs
+  weighs_of rs t = ∥∥₁_elim t (weighs_prop rs) (λ w. w)
+
+  pub nullable_of : (f : ℕ → V) → ∥ NullableWeights M W f ∥₁ → NullableWeights M W f
+  nullable_of f t = ∥∥₁_elim t (λ a b. λ i. λ x h. Coded-set code _ _ (a x h) (b x h) i) (λ w. w)

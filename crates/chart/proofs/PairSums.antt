@@ -1,5 +1,5 @@
 -- Strict pairs over a right part, and what they come to.
-use Rattle.std.proofs.Common.{◌≡◌, ℕ, suc, ◌≤◌, Bool, true, false, cond, eqb, List, [], ◌∷◌, ◌++◌, sym, refl, ap, ◌∙◌, subst, inl, inr, ⊎_elim, arith}
+use Rattle.std.proofs.Common.{◌≡◌, ℕ, suc, ◌≤◌, Bool, true, false, cond, eqb, List, [], ◌∷◌, ◌++◌, length, sym, refl, ap, ◌∙◌, subst, inl, inr, ⊎_elim, arith}
 use Rattle.grammar.specs.Lists.{Mem}
 use Rattle.grammar.specs.Semiring.{Ops, Semiring}
 use Rattle.grammar.specs.Binarised.{Right as RightSide, binary}
@@ -11,8 +11,7 @@ use Rattle.conversion.specs.declared.right.Right.{Right}
 use Rattle.conversion.specs.declared.right.Right.TheVariants.{Empty, Unit, Binary, Terminal}
 use Rattle.conversion.specs.declared.strict.StrictRule.{StrictRule}
 use Rattle.chart.specs.declared.pairs.Pair.{Pair}
-use Rattle.chart.specs.declared.pairs.Pairs.{Pairs}
-use Rattle.chart.specs.Pairs.{pairs_of, pairs_sum, PairAdded}
+use Rattle.chart.specs.Pairs.{pairs_sum, PairAdded}
 use Rattle.chart.proofs.SumLaws.{plus_none, sum_push, sum_cond}
 
 -- what a right side comes to over a left and a right cell
@@ -34,11 +33,11 @@ module _ {V : Type 0} (M : Ops V) (L : Semiring M) where
   cond_same false v = refl
 
   -- a rule that comes to nothing gives no pair
-  pub pair_kept : (r : StrictRule) (w : V) (right : ℕ → V) (was : Pairs V) → ((left : ℕ → V) → side_sum M w left right (right_side_of r.right) ≡ M.zero) → PairAdded M r w right was was
+  pub pair_kept : (r : StrictRule) (w : V) (right : ℕ → V) (was : List (Pair V)) → ((left : ℕ → V) → side_sum M w left right (right_side_of r.right) ≡ M.zero) → PairAdded M r w right was was
   pair_kept r w right was none = record {
     sums = λ left x. sym
-        (ap (λ v. M.plus (pairs_sum M left x (pairs_of was)) (cond (eqb r.symbol x) v M.zero)) (none left)
-        ∙ ap (M.plus (pairs_sum M left x (pairs_of was))) (cond_same (eqb r.symbol x) M.zero) ∙ plus_none M L (pairs_sum M left x (pairs_of was)));
+        (ap (λ v. M.plus (pairs_sum M left x was) (cond (eqb r.symbol x) v M.zero)) (none left)
+        ∙ ap (M.plus (pairs_sum M left x was)) (cond_same (eqb r.symbol x) M.zero) ∙ plus_none M L (pairs_sum M left x was));
     pairs = λ p m. inl m;
     few = omega arith;
   }
@@ -49,15 +48,15 @@ module _ {V : Type 0} (M : Ops V) (L : Semiring M) where
       ap (side_sum M w left right) e ∙ ap (λ v. M.times w (M.times (left y) v)) n ∙ ap (M.times w) (times_zero_right M L (left y)) ∙ times_zero_right M L w
 
   -- a binary rule gives its pair
-  pub pair_pushed : (r : StrictRule) (w : V) (right : ℕ → V) (was is : Pairs V) (y z : ℕ) (part v : V)
+  pub pair_pushed : (r : StrictRule) (w : V) (right : ℕ → V) (was is : List (Pair V)) (y z : ℕ) (part v : V)
       → right_side_of r.right ≡ binary y z → part ≡ right z → v ≡ M.times w part
-      → pairs_of is ≡ pairs_of was ++ (record { symbol = r.symbol; left = y; weight = v } ∷ []) → is.count ≤ suc was.count → PairAdded M r w right was is
+      → is ≡ was ++ (record { symbol = r.symbol; left = y; weight = v } ∷ []) → length is ≤ suc (length was) → PairAdded M r w right was is
   pair_pushed r w right was is y z part v e p t added few = record {
     sums = λ left x.
-        ap (pairs_sum M left x) added ∙ pairs_push left x (pairs_of was) (record { symbol = r.symbol; left = y; weight = v })
-        ∙ ap (λ u. M.plus (pairs_sum M left x (pairs_of was)) (cond (eqb r.symbol x) u M.zero))
+        ap (pairs_sum M left x) added ∙ pairs_push left x was (record { symbol = r.symbol; left = y; weight = v })
+        ∙ ap (λ u. M.plus (pairs_sum M left x was) (cond (eqb r.symbol x) u M.zero))
         (ap (M.times (left y)) (t ∙ ap (M.times w) p) ∙ times_swap (left y) w (right z) ∙ sym (ap (side_sum M w left right) e));
-    pairs = λ q m. ⊎_elim (λ k. inl k) (λ k. inr (one q k)) (mem_append q (pairs_of was) _ (subst (Mem q) added m));
+    pairs = λ q m. ⊎_elim (λ k. inl k) (λ k. inr (one q k)) (mem_append q was _ (subst (Mem q) added m));
     few = few;
   }
     where

@@ -1,7 +1,7 @@
 -- Where columns and cells lie.
 use Rattle.std.proofs.Common.{◌≡◌, ℕ, zero, suc, ◌+◌, ◌-◌, ◌*◌, ◌/◌, ◌<◌, ◌≤◌, sym, refl, ap, ◌∙◌, subst, suc-mul, mul_comm, add-mul, one-mul, mul-suc, arith}
 use Rattle.std.proofs.lemmas.Nat.{mul-le, shl-shr}
-use Rattle.chart.specs.Table.{column_place, cell_place, Room}
+use Rattle.chart.specs.Table.{column_place, cell_place}
 
 -- 0 + 1 + .. + (e - 1)
 abbrev tri : ℕ → ℕ
@@ -68,7 +68,3 @@ cell_mono s e i k h = omega (arith, mul-le i s k s h (omega arith))
 -- the weights of a cell lie in the table
 pub inside : (s k e i x r n : ℕ) → r ≡ cell_place s k i → i < k → k ≤ e → column_place s (e + 1) ≤ n → x < s → r + x < n
 inside s k e i x r n q hi hk room hx = omega (arith, cell_within s k i hi, start_mono s (k + 1) (e + 1) (omega arith))
-
--- a table as long has the same room
-pub room_kept : (s e n m : ℕ) → m ≡ n → Room s e n → Room s e m
-room_kept s e n m q r = record { some = r.some; symbols = r.symbols; counted = r.counted; few = r.few; long = omega (arith, r.long) }

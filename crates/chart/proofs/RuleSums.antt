@@ -1,5 +1,5 @@
 -- Sums over the strict rules of a book, rule by rule.
-use Rattle.std.proofs.Common.{◌≡◌, ℕ, ◌<◌, Bool, true, cond, eqb, List, map, length, get_or, sym, ap, ◌∙◌, subst, arith}
+use Rattle.std.proofs.Common.{◌≡◌, ℕ, ◌<◌, Bool, true, cond, eqb, List, length, get_or, sym, ap, ◌∙◌, subst, arith}
 use Rattle.std.proofs.lemmas.List.{get_or-map, length-map}
 use Rattle.grammar.specs.Lists.{Mem, those}
 use Rattle.grammar.specs.Semiring.{Ops, Semiring, sum}
@@ -14,7 +14,8 @@ use Rattle.grammar.proofs.StrictOrder.{strict_listed}
 use Rattle.grammar.proofs.BinarisedRules.{binarised_within}
 use Rattle.conversion.specs.Views.{strict_rule_of}
 use Rattle.conversion.proofs.Firsts.{get_d_mem}
-use Rattle.conversion.specs.declared.strict.StrictRule.{StrictRule}
+use Rattle.chart.specs.declared.weighed.WeighedRule.{WeighedRule}
+use Rattle.chart.specs.Weights.{Weighs}
 use Rattle.chart.specs.Charts.{over_event, over_parts}
 use Rattle.chart.proofs.SumLaws.{sum_cond}
 use Rattle.chart.proofs.PairSums.{side_sum}
@@ -47,10 +48,27 @@ module _ (W : Book) {V : Type 0} (M : Ops V) (L : Semiring M) where
   pub all_events : {E : Type 0} (fits : E → ℕ → Bool) (e : E) (x : ℕ) → x < (binarised W).symbols → events_sum W M fits e x (strict_rules (binarised W)) ≡ over_event W M fits e x
   all_events fits e x h = among_all (λ r. terminal_fits fits e r.right) _ x h
 
--- a strict rule in the array, and in the list
-pub rule_at : (l : List StrictRule) (rs : List StrictFormRule) (i : ℕ) (d : StrictRule) → map strict_rule_of l ≡ rs → i < length l
-    → (i < length rs) × ((q : StrictFormRule) → get_or rs i q ≡ strict_rule_of (get_or l i d))
-rule_at l rs i d e h = (omega (arith, ap length e, length-map l strict_rule_of), λ q. ap (λ k. get_or k i q) (sym e) ∙ get_or-map strict_rule_of l i d q h)
+-- a weighed rule in the list, and in the book's
+pub weighed_at : {V : Type 0} (W : Book) (M : Ops V) (ws : List (WeighedRule V)) (i : ℕ) (w : WeighedRule V) → Weighs M W ws → i < length ws → w ≡ get_or ws i w
+    → (i < length (strict_rules (binarised W))) × (get_or (strict_rules (binarised W)) i (strict_rule_of w.rule) ≡ strict_rule_of w.rule) × (w.weight ≡ strict_weight_of W M (strict_rule_of w.rule))
+weighed_at {V} W M ws i w weighs h e =
+    let f : WeighedRule V → StrictFormRule = λ a. strict_rule_of a.rule in
+    let rs = strict_rules (binarised W) in (
+      omega (arith, ap length weighs.rules, length-map ws f),
+      ap (λ k. get_or k i (f w)) (sym weighs.rules) ∙ get_or-map f ws i w (f w) h ∙ ap f (sym e),
+      weighs.weights w (subst (λ (a : WeighedRule V). Mem a ws) (sym e) (get_d_mem ws i w h)),
+    )
+
+-- there are as many
+pub weighed_many : {V : Type 0} (W : Book) (M : Ops V) (ws : List (WeighedRule V)) → Weighs M W ws → length (strict_rules (binarised W)) ≡ length ws
+weighed_many {V} W M ws weighs = sym (ap length weighs.rules) ∙ length-map ws (λ (a : WeighedRule V). strict_rule_of a.rule)
+
+-- it is one of the book's
+pub weighed_mem : {V : Type 0} (W : Book) (M : Ops V) (ws : List (WeighedRule V)) (i : ℕ) (w : WeighedRule V) → Weighs M W ws → i < length ws → w ≡ get_or ws i w → Mem (strict_rule_of w.rule) (strict_rules (binarised W))
+weighed_mem W M ws i w weighs h e =
+    let rs = strict_rules (binarised W) in
+    let at = weighed_at W M ws i w weighs h e in
+    subst (λ (a : StrictFormRule). Mem a rs) at.1 (get_d_mem rs i (strict_rule_of w.rule) at.0)
 
 -- strict rules are of the symbols, and made of them
 module _ (W : Book) (S : Sound W) where
@@ -69,10 +87,6 @@ module _ (W : Book) (S : Sound W) where
       → (r.symbol < (binarised W).symbols) × ((sides r.right).0 < (binarised W).symbols) × ((sides r.right).1 < (binarised W).symbols)
   parts_within r m e = let k = strict_within r m in let b = binary_within r.right (binarised W).symbols W.patterns e k.1 in (k.0, b.0, b.1)
 
-  -- a strict rule in the array is of one of the symbols
-  pub symbol_within : (l : List StrictRule) (i : ℕ) (d : StrictRule) → map strict_rule_of l ≡ strict_rules (binarised W) → i < length l → (get_or l i d).symbol < (binarised W).symbols
-  symbol_within l i d e h =
-      let rs = strict_rules (binarised W) in
-      let r : StrictFormRule = strict_rule_of (get_or l i d) in
-      let at = rule_at l rs i d e h in
-      (strict_within r (subst (λ (a : StrictFormRule). Mem a rs) (at.1 r) (get_d_mem rs i r at.0))).0
+  -- a weighed rule is of one of the symbols
+  pub symbol_within : {V : Type 0} (M : Ops V) (ws : List (WeighedRule V)) (i : ℕ) (w : WeighedRule V) → Weighs M W ws → i < length ws → w ≡ get_or ws i w → w.rule.symbol < (binarised W).symbols
+  symbol_within M ws i w weighs h e = (strict_within (strict_rule_of w.rule) (weighed_mem W M ws i w weighs h e)).0

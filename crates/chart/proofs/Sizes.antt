@@ -1,4 +1,4 @@
--- The array of pairs has room in memory, since a value is small.
+-- The lists of pairs and of weighed rules have room in memory, since a value is small.
 use Rattle.std.proofs.Common.{ℕ, ◌+◌, ◌-◌, ◌*◌, ◌%◌, ◌<◌, ◌≤◌, max, mod-lt, arith, w8, w16, w32, w64}
 use mir.Syntax.{Width, w128, Ty}
 use mir.Val.{bytes}
@@ -20,15 +20,32 @@ align_small τ = let w = width_small (align_w τ) in (omega (arith, align-bytes 
 up_little : (k e : ℕ) → 0 < k → k ≤ 16 → up k e ≤ e + 16
 up_little k e h l = let m : (k - e % k) % k < k = mod-lt (k - e % k) h in omega arith
 
-pub pairs_small : (τ : Ty) → size τ ≤ 4503599627370496
-    → up (max (max 1 (max 1 (max (align τ) 1))) 8) (up 8 (up (max 1 (max 1 (max (align τ) 1))) 0 + 1024 * up (max 1 (max 1 (max (align τ) 1))) (up (align τ) 2 + size τ)) + 8) < 9223372036854775808
+-- the bytes of a list of 1,024 items, with a value beside its length
+abbrev list_size : ℕ → ℕ → Ty → ℕ
+list_size k one τ =
+    up (max (max k 1) (max 8 (max (align τ) 1)))
+    (up (align τ) (up 8 (up (max k 1) 0 + up (max k 1) (up k 0 + 1024 * up k one)) + 8) + size τ)
+
+list_small : (k one : ℕ) (τ : Ty) → 0 < k → k ≤ 16 → one ≤ 4503599627370544 → size τ ≤ 4503599627370496 → list_size k one τ < 9223372036854775808
+list_small k one τ k0 k1 o v =
+    let a = align_small τ in
+    let h : ℕ = max k 1 in
+    let h0 : 0 < h = omega arith in
+    let h1 : h ≤ 16 = omega (arith, k1) in
+    let top : ℕ = max h (max 8 (max (align τ) 1)) in
+    let item : up k one ≤ 4503599627370560 = omega (arith, up_little k one k0 k1, o) in
+    let many : 1024 * up k one ≤ 1024 * 4503599627370560 = mul-le 1024 (up k one) 1024 4503599627370560 (omega arith) item in
+    let list : up h (up k 0 + 1024 * up k one) ≤ 32 + 1024 * 4503599627370560 = omega (arith, up_little h (up k 0 + 1024 * up k one) h0 h1, up_little k 0 k0 k1, many) in
+    let cells : up 8 (up h 0 + up h (up k 0 + 1024 * up k one)) ≤ 64 + 1024 * 4503599627370560 = omega (arith, up_little 8 (up h 0 + up h (up k 0 + 1024 * up k one)) (omega arith) (omega arith), up_little h 0 h0 h1, list) in
+    let whole : up (align τ) (up 8 (up h 0 + up h (up k 0 + 1024 * up k one)) + 8) ≤ 88 + 1024 * 4503599627370560 = omega (arith, up_little (align τ) (up 8 (up h 0 + up h (up k 0 + 1024 * up k one)) + 8) a.0 a.1, cells) in
+    omega (arith, up_little top (up (align τ) (up 8 (up h 0 + up h (up k 0 + 1024 * up k one)) + 8) + size τ) (omega arith) (omega (arith, h1, a.1)), whole, v)
+
+pub pairs_small : (τ : Ty) → size τ ≤ 4503599627370496 → list_size (max 1 (max 1 (max (align τ) 1))) (up (align τ) 2 + size τ) τ < 9223372036854775808
 pairs_small τ h =
     let a = align_small τ in
-    let k : ℕ = max 1 (max 1 (max (align τ) 1)) in
-    let kl : 0 < k = omega arith in
-    let kh : k ≤ 16 = omega (arith, a.1) in
-    let inner : up (align τ) 2 + size τ ≤ 2 + 16 + 4503599627370496 = omega (arith, up_little (align τ) 2 a.0 a.1) in
-    let one : up k (up (align τ) 2 + size τ) ≤ 4503599627370530 = omega (arith, up_little k (up (align τ) 2 + size τ) kl kh, inner) in
-    let many : 1024 * up k (up (align τ) 2 + size τ) ≤ 1024 * 4503599627370530 = mul-le 1024 (up k (up (align τ) 2 + size τ)) 1024 4503599627370530 (omega arith) one in
-    let all : up 8 (up k 0 + 1024 * up k (up (align τ) 2 + size τ)) ≤ 16 + 16 + 1024 * 4503599627370530 = omega (arith, many, up_little k 0 kl kh, up_little 8 (up k 0 + 1024 * up k (up (align τ) 2 + size τ)) (omega arith) (omega arith)) in
-    omega (arith, all, up_little (max k 8) (up 8 (up k 0 + 1024 * up k (up (align τ) 2 + size τ)) + 8) (omega arith) (omega arith))
+    list_small (max 1 (max 1 (max (align τ) 1))) (up (align τ) 2 + size τ) τ (omega arith) (omega (arith, a.1)) (omega (arith, up_little (align τ) 2 a.0 a.1, h)) h
+
+pub rules_small : (τ : Ty) → size τ ≤ 4503599627370496 → list_size (max 1 (max (align τ) 1)) (up (align τ) 6 + size τ) τ < 9223372036854775808
+rules_small τ h =
+    let a = align_small τ in
+    list_small (max 1 (max (align τ) 1)) (up (align τ) 6 + size τ) τ (omega arith) (omega (arith, a.1)) (omega (arith, up_little (align τ) 6 a.0 a.1, h)) h

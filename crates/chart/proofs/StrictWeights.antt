@@ -1,17 +1,17 @@
 -- The weights of chosen chains and of strict rules.
-use Rattle.std.proofs.Common.{◌≡◌, ℕ, ◌+◌, ◌<◌, ◌≤◌, true, List, ◌∷◌, map, length, get_or, Some, None, Option, set, sym, refl, ap, ◌∙◌, subst, inl, inr, arith}
-use Rattle.std.proofs.lemmas.List.{length-map, get_or-set_same, get_or-set_other}
-use Rattle.std.proofs.lemmas.Bool.{both_ways, cases_eq, cond-true}
+use Rattle.std.proofs.Common.{◌≡◌, ℕ, ◌+◌, ◌<◌, ◌≤◌, true, Some, None, Option, List, [], ◌∷◌, ◌++◌, map, length, get_or, take, sym, refl, ap, ◌∙◌, subst, ⊎_elim, arith}
+use Rattle.std.proofs.lemmas.List.{length-map, map-append, length-append, take_more, take_all}
+use Rattle.std.proofs.lemmas.Bool.{both_ways, cond-true}
 use Rattle.grammar.specs.Semiring.{Ops, Semiring}
 use Rattle.grammar.specs.Lists.{Mem}
 use Rattle.grammar.specs.Productions.{Book, Sound}
-use Rattle.grammar.specs.Binarise.{binarised, Admitted}
+use Rattle.grammar.specs.Binarise.{binarised}
 use Rattle.grammar.specs.Nullable.{nullable}
 use Rattle.grammar.specs.Chains.{Dropped, nothing, the_right, the_left, Leads, UnitChain, reached, chosen_chain}
 use Rattle.grammar.specs.Strict.{StrictFormRule, strict_rules}
 use Rattle.grammar.specs.Cells.{drop_weight, chain_weight}
 use Rattle.grammar.specs.Weights.{binarised_weight, strict_weight_of}
-use Rattle.grammar.proofs.Lists.{mem_map}
+use Rattle.grammar.proofs.Lists.{mem_map, mem_append}
 use Rattle.grammar.proofs.Sums.{times_one_right}
 use Rattle.grammar.proofs.Nullable.{rounds_small}
 use Rattle.grammar.proofs.Chains.{chain_self, within_small, chain_within, reached_mem, mem_reached, chain_leads}
@@ -19,16 +19,13 @@ use Rattle.grammar.proofs.BinarisedRules.{get_d_mem, binarised_bounded, binarise
 use Rattle.conversion.specs.declared.chain.UnitStep.{UnitStep}
 use Rattle.conversion.specs.declared.chain.Chain.{Chain}
 use Rattle.conversion.specs.declared.chain.Chain.TheVariants.{Empty, Steps}
-use Rattle.conversion.specs.declared.chain.Chains.{Chains}
 use Rattle.conversion.specs.declared.strict.StrictRule.{StrictRule}
-use Rattle.conversion.specs.declared.form.StrictForm.{StrictForm}
 use Rattle.conversion.specs.Views.{drop_of, step_of, strict_rule_of}
-use Rattle.conversion.specs.Forms.{FormOf}
-use Rattle.conversion.specs.Linked.{link, Chosen, ChosenChains}
+use Rattle.conversion.specs.Linked.{Chosen}
 use Rattle.conversion.proofs.Walking.{shortest_chain}
 use Rattle.book.proofs.Held.{seen}
-use Rattle.book.proofs.Closed.{listed}
-use Rattle.chart.specs.Weights.{blank_weight, dropped_weight, NullableWeights, StrictWeights}
+use Rattle.chart.specs.declared.weighed.WeighedRule.{WeighedRule}
+use Rattle.chart.specs.Weights.{blank_weight, dropped_weight, NullableWeights, Weighs}
 
 -- the weight of the chosen chain from x to y
 abbrev chosen_weight : {V : Type 0} → Ops V → Book → ℕ → ℕ → V
@@ -38,12 +35,12 @@ chosen_weight M W x y = chain_weight (binarised W) M (binarised_weight W M) (cho
 abbrev pub OnTheWay : {V : Type 0} → Ops V → Book → ℕ → ℕ → ℕ → V → Type 0
 OnTheWay M W x y z p = Mem y (reached (binarised W) z) × (M.times p (chosen_weight M W z y) ≡ chosen_weight M W x y)
 
--- the table has the chosen chain to a symbol that is reached
-pub chosen_there : (W : Book) → Sound W → (c : Chains) → ChosenChains (binarised W) c → (x y : ℕ) → Mem y (reached (binarised W) x) → (o : Option Chain) → o ≡ link c x y → Chosen (binarised W) x y o
-chosen_there W S c all x y m o e =
+-- the chosen chain to a symbol that is reached
+pub chosen_there : (W : Book) → Sound W → (x y : ℕ) → Mem y (reached (binarised W) x) → (o : Option Chain) → (x < 128 → y < 128 → Chosen (binarised W) x y o) → Chosen (binarised W) x y o
+chosen_there W S x y m o told =
     let r = reached_mem (binarised W) (binarised_bounded W S) x y m in
     let l = within_small (binarised W) (binarised_bounded W S) y r.0 (binarised W).symbols x r.1 in
-    subst (Chosen (binarised W) x y) (sym e) (all x y (omega (arith, binarised_size W S)) (omega (arith, r.0, binarised_size W S)))
+    told (omega (arith, binarised_size W S)) (omega (arith, r.0, binarised_size W S))
 
 -- the chosen chain from z to y is its first step and the chosen chain from where that ends
 module _ (W : Book) (S : Sound W) (y z k : ℕ) (s : UnitStep) (h : Chosen (binarised W) z y (Some (Steps k s))) (m : Mem y (reached (binarised W) z)) where
@@ -98,31 +95,47 @@ module _ {V : Type 0} (M : Ops V) (L : Semiring M) (W : Book) (S : Sound W) wher
               ∙ ap (λ c. M.times p (chain_weight (binarised W) M wt c)) (sym (chain_split W S y z k s h m)) ∙ w,
         )
 
--- the first n places of the list have the weights of the first n strict rules
-abbrev pub WeightsTo : {V : Type 0} → Ops V → Book → ℕ → List V → Type 0
-WeightsTo M W n ws = (j : ℕ) (r : StrictFormRule) → j < n → get_or ws j M.zero ≡ strict_weight_of W M (get_or (strict_rules (binarised W)) j r)
+-- the list has the first n strict rules, each with its weight
+pub record WeighsFirst {V : Type 0} (M : Ops V) (W : Book) (n : ℕ) (rs : List (WeighedRule V)) : Type 0 where
+  pub rules : map (λ (r : WeighedRule V). strict_rule_of r.rule) rs ≡ take n (strict_rules (binarised W))
+  pub weights : (r : WeighedRule V) → Mem r rs → r.weight ≡ strict_weight_of W M (strict_rule_of r.rule)
+  pub few : length rs ≤ n
 
--- the strict rules of the form are those of the book
-pub strict_are : (W : Book) (f : StrictForm) → Admitted W → FormOf W f → (l : List StrictRule) → l ≡ f.strict.rules.items → map strict_rule_of l ≡ strict_rules (binarised W)
-strict_are W f a form l e = ap (map strict_rule_of) e ∙ listed W f a form
+module _ {V : Type 0} (M : Ops V) (W : Book) where
+  pub weighs_none : (rs : List (WeighedRule V)) → rs ≡ [] → WeighsFirst M W 0 rs
+  weighs_none rs e = record {
+    rules = ap (map (λ (r : WeighedRule V). strict_rule_of r.rule)) e;
+    weights = λ r m. absurd (subst (Mem r) e m);
+    few = omega (arith, ap length e);
+  }
 
--- there is room for them
-pub strict_few : (f : StrictForm) (l : List StrictRule) → l ≡ f.strict.rules.items → length l ≤ 1024
-strict_few f l e = omega (arith, ap length e, f.strict.few)
+  module _ (l : List StrictRule) (are : map strict_rule_of l ≡ strict_rules (binarised W)) where
+    pub strict_in : (i : ℕ) (d : StrictRule) → i < length l → Mem (strict_rule_of (get_or l i d)) (strict_rules (binarised W))
+    strict_in i d h = subst (Mem (strict_rule_of (get_or l i d))) are (mem_map strict_rule_of (get_or l i d) l (get_d_mem l i d h))
 
-module _ (W : Book) (l : List StrictRule) (are : map strict_rule_of l ≡ strict_rules (binarised W)) where
-  pub strict_in : (i : ℕ) (d : StrictRule) → i < length l → Mem (strict_rule_of (get_or l i d)) (strict_rules (binarised W))
-  strict_in i d h = subst (Mem (strict_rule_of (get_or l i d))) are (mem_map strict_rule_of (get_or l i d) l (get_d_mem l i d h))
+    -- one rule more
+    pub weighs_more : (i : ℕ) (d : StrictRule) (v : V) (was is : List (WeighedRule V)) → i < length l → v ≡ strict_weight_of W M (strict_rule_of (get_or l i d))
+        → is ≡ was ++ (record { rule = get_or l i d; weight = v } ∷ []) → WeighsFirst M W i was → WeighsFirst M W (i + 1) is
+    weighs_more i d v was is h weighs e first =
+        let f : WeighedRule V → StrictFormRule = λ r. strict_rule_of r.rule in
+        let q = get_or l i d in
+        let new : WeighedRule V = record { rule = q; weight = v } in
+        let rs = strict_rules (binarised W) in
+        let long : i < length rs = omega (arith, h, ap length are, length-map l strict_rule_of) in
+        record {
+          rules = ap (map f) e ∙ map-append f was (new ∷ []) ∙ ap (λ a. a ++ (strict_rule_of q ∷ [])) first.rules
+              ∙ ap (λ (a : StrictFormRule). take i rs ++ (a ∷ [])) (seen strict_rule_of l rs i d are h (strict_rule_of q))
+              ∙ sym (take_more rs i (strict_rule_of q) long);
+          weights = λ r m. ⊎_elim
+              (λ k. first.weights r k)
+              (λ k. ⊎_elim (λ (s : r ≡ new). ap (λ (a : WeighedRule V). a.weight) s ∙ weighs ∙ ap (λ (a : WeighedRule V). strict_weight_of W M (strict_rule_of a.rule)) (sym s)) (λ n. absurd n) k)
+              (mem_append r was (new ∷ []) (subst (Mem r) e m));
+          few = omega (arith, first.few, ap length e, length-append was (new ∷ []));
+        }
 
-  -- one rule more
-  pub weights_more : {V : Type 0} (M : Ops V) (i : ℕ) (d : StrictRule) (v : V) (ws : List V) → i < length l → i < length ws → v ≡ strict_weight_of W M (strict_rule_of (get_or l i d))
-      → WeightsTo M W i ws → WeightsTo M W (i + 1) (set ws i v)
-  weights_more M i d v ws h k weighs to j r b = elim (cases_eq j i) [
-    | inl e ↦ subst (λ n. get_or (set ws i v) n M.zero ≡ strict_weight_of W M (get_or (strict_rules (binarised W)) n r)) (sym e)
-        (get_or-set_same ws i v M.zero k ∙ weighs ∙ ap (strict_weight_of W M) (seen strict_rule_of l (strict_rules (binarised W)) i d are h r))
-    | inr n ↦ get_or-set_other ws i j v M.zero n ∙ to j r (omega (arith, n))
-  ]
-
-  -- all of them
-  pub weights_all : {V : Type 0} (M : Ops V) (n : ℕ) (ws : List V) → length l ≤ n → WeightsTo M W n ws → StrictWeights M W ws
-  weights_all M n ws m to i r h = to i r (omega (arith, ap length are, length-map l strict_rule_of))
+    -- all of them
+    pub weighs_all : (n : ℕ) (rs : List (WeighedRule V)) → length l ≤ n → WeighsFirst M W n rs → Weighs M W rs
+    weighs_all n rs m first = record {
+      rules = first.rules ∙ take_all n (strict_rules (binarised W)) (omega (arith, m, ap length are, length-map l strict_rule_of));
+      weights = first.weights;
+    }

@@ -1,8 +1,12 @@
--- The numbers of the refusals.
-use Rattle.std.specs.Prelude.{ℕ}
+-- The numbers of the refusals, and what they say.
+use Rattle.std.specs.Prelude.{ℕ, List, codes}
 use Rattle.chart.specs.declared.fault.FeedFault.{FeedFault}
 use Rattle.chart.specs.declared.fault.FeedFault.TheVariants.{NoRoom}
 
 -- of a feed
 abbrev pub feed_number : FeedFault → ℕ
 feed_number NoRoom = 11
+
+-- the refusal of a feed in plain words: its cause and its number
+abbrev pub feed_text : FeedFault → List ℕ
+feed_text NoRoom = codes "no room for one more event (refusal 11)"

@@ -6,3 +6,4 @@ pub mod Pairs
 pub mod Events
 pub mod Feeds
 pub mod Totals
+pub mod Columns

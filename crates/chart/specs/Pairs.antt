@@ -1,16 +1,11 @@
 -- The strict pairs over a right part.
-use Rattle.std.specs.Prelude.{◌≡◌, ℕ, suc, ◌<◌, ◌≤◌, true, cond, ◌⊎◌, List, take, ◌==◌, nat_eq}
+use Rattle.std.specs.Prelude.{◌≡◌, ℕ, suc, ◌<◌, ◌≤◌, true, cond, ◌⊎◌, List, length, ◌==◌, nat_eq}
 use Rattle.grammar.specs.Lists.{Mem, those}
 use Rattle.grammar.specs.Semiring.{Ops, sum}
 use Rattle.grammar.specs.Cells.{is_binary, sides}
 use Rattle.conversion.specs.declared.strict.StrictRule.{StrictRule}
 use Rattle.conversion.specs.Views.{right_side_of}
 use Rattle.chart.specs.declared.pairs.Pair.{Pair}
-use Rattle.chart.specs.declared.pairs.Pairs.{Pairs}
-
--- the pairs in the array
-abbrev pub pairs_of : {V : Type 0} → Pairs V → List (Pair V)
-pairs_of p = take p.count p.list
 
 -- what the pairs of the symbol x come to over a left cell
 abbrev pub pairs_sum : {V : Type 0} → Ops V → (ℕ → V) → ℕ → List (Pair V) → V
@@ -22,8 +17,8 @@ PairsWithin S ps = (p : Pair _) → Mem p ps → (p.symbol < S) × (p.left < S)
 
 -- over a right cell a strict rule of a weight has come to the pairs: where it is binary, for every left cell they come to so much more.
 -- Each pair is one that was there, or of the rule's symbol and its first symbol
-pub record PairAdded {V : Type 0} (M : Ops V) (r : StrictRule) (w : V) (right : ℕ → V) (was is : Pairs V) : Type 0 where
-  pub sums : (left : ℕ → V) (x : ℕ) → pairs_sum M left x (pairs_of is) ≡ M.plus (pairs_sum M left x (pairs_of was))
+pub record PairAdded {V : Type 0} (M : Ops V) (r : StrictRule) (w : V) (right : ℕ → V) (was is : List (Pair V)) : Type 0 where
+  pub sums : (left : ℕ → V) (x : ℕ) → pairs_sum M left x is ≡ M.plus (pairs_sum M left x was)
       (cond (r.symbol == x) (cond (is_binary (right_side_of r.right)) (M.times w (M.times (left (sides (right_side_of r.right)).0) (right (sides (right_side_of r.right)).1))) M.zero) M.zero)
-  pub pairs : (p : Pair V) → Mem p (pairs_of is) → Mem p (pairs_of was) ⊎ ((is_binary (right_side_of r.right) ≡ true) × (p.symbol ≡ r.symbol) × (p.left ≡ (sides (right_side_of r.right)).0))
-  pub few : is.count ≤ suc was.count
+  pub pairs : (p : Pair V) → Mem p is → Mem p was ⊎ ((is_binary (right_side_of r.right) ≡ true) × (p.symbol ≡ r.symbol) × (p.left ≡ (sides (right_side_of r.right)).0))
+  pub few : length is ≤ suc (length was)

@@ -28,11 +28,3 @@ AddedStarts M S e k more was is = SameOutside M.zero (column_place S e) (cell_pl
 -- the places a ≤ j < b hold zero, and nothing else has changed
 abbrev pub Cleared : {V : Type 0} → Ops V → ℕ → ℕ → List V → List V → Type 0
 Cleared M a b was is = SameOutside M.zero a b was is × ((j : ℕ) → a ≤ j → j < b → slice_index_or is j M.zero ≡ M.zero)
-
--- a table of n weights, S symbols a cell, has room for the column of event e
-pub record Room (S e n : ℕ) : Type 0 where
-  pub some : 0 < S
-  pub symbols : S ≤ 128
-  pub counted : 0 < e
-  pub few : e ≤ 256
-  pub long : column_place S (e + 1) ≤ n

@@ -1,15 +1,18 @@
 -- The weights that a chart works from: of binarised rules, of the chosen derivations of nothing, of strict rules.
-use Rattle.std.specs.Prelude.{◌≡◌, ℕ, ◌<◌, cond, List, length, slice_index_or}
+use Rattle.std.specs.Prelude.{◌≡◌, ℕ, ◌<◌, cond, List, map}
 use Rattle.grammar.specs.Semiring.{Ops}
 use Rattle.grammar.specs.Productions.{Book}
 use Rattle.grammar.specs.Binarised.{Right, empty, unit, binary, terminal}
 use Rattle.grammar.specs.Nullable.{nullable_after, nullable, nullable_tree}
 use Rattle.grammar.specs.Chains.{Dropped, nothing, the_right, the_left}
-use Rattle.grammar.specs.Strict.{StrictFormRule, strict_rules}
+use Rattle.grammar.specs.Lists.{Mem}
+use Rattle.grammar.specs.Strict.{strict_rules}
 use Rattle.grammar.specs.Cells.{tree_weight}
 use Rattle.grammar.specs.Weights.{binarised_weight, strict_weight_of}
 use Rattle.grammar.specs.Binarise.{binarised}
+use Rattle.conversion.specs.Views.{strict_rule_of}
 pub use Rattle.book.specs.Rules.{rules_book}
+use Rattle.chart.specs.declared.weighed.WeighedRule.{WeighedRule}
 
 -- the weight of the chosen tree without events of the nullable symbol x
 abbrev pub blank_weight : {V : Type 0} → Ops V → Book → ℕ → V
@@ -36,12 +39,7 @@ dropped_weight M f nothing = M.one
 dropped_weight M f (the_right z) = f z
 dropped_weight M f (the_left y) = f y
 
--- the list has the weight of each strict rule in its place
-abbrev pub StrictWeights : {V : Type 0} → Ops V → Book → List V → Type 0
-StrictWeights M W ws = (i : ℕ) (r : StrictFormRule) → i < length (strict_rules (binarised W))
-    → slice_index_or ws i M.zero ≡ strict_weight_of W M (slice_index_or (strict_rules (binarised W)) i r)
-
--- the number of symbols of a book, and the weights of its strict rules
-pub record OfBook {V : Type 0} (M : Ops V) (W : Book) (S : ℕ) (ws : List V) : Type 0 where
-  pub symbols : S ≡ (binarised W).symbols
-  pub weights : StrictWeights M W ws
+-- the list has the strict rules of a book in their order, each with its weight
+pub record Weighs {V : Type 0} (M : Ops V) (W : Book) (rs : List (WeighedRule V)) : Type 0 where
+  pub rules : map (λ (r : WeighedRule V). strict_rule_of r.rule) rs ≡ strict_rules (binarised W)
+  pub weights : (r : WeighedRule V) → Mem r rs → r.weight ≡ strict_weight_of W M (strict_rule_of r.rule)

@@ -1,101 +1,77 @@
-// The strict pairs that a right part leaves something of.
-ghost use Rattle.std.specs.Prelude.{◌≡◌, ℕ, suc, ◌<◌, ◌≤◌, [], ◌∷◌, ◌++◌};
-ghost use Rattle.grammar.specs.Binarise.{binarised};
-ghost use Rattle.book.specs.Books.{closed_book};
-ghost use Rattle.chart.specs.Table.{cell_at};
-ghost use Rattle.chart.specs.Weights.{StrictWeights};
-ghost use Rattle.chart.specs.Charts.{over_parts};
-ghost use Rattle.chart.specs.Pairs.{pairs_of, pairs_sum, PairsWithin, PairAdded};
+// What the strict rules give over one event, and over a right part.
+ghost use Rattle.std.specs.Prelude.{◌≡◌, ℕ, ◌+◌, ◌-◌, ◌<◌, ◌≤◌, length, if◌then◌else◌};
+ghost use Rattle.arrayvec.specs.ArrayVec.{array_vec_len};
+ghost use Rattle.grammar.specs.Cells.{terminal_fits};
+ghost use Rattle.conversion.specs.Views.{right_side_of};
+ghost use Rattle.book.specs.Fits.{ForTests};
+ghost use Rattle.book.specs.Books.{closed_book, closed_fits};
+ghost use Rattle.chart.specs.Table.{cell_place, cell_at, SameOutside, Added};
+ghost use Rattle.chart.specs.Charts.{over_event, over_parts};
+ghost use Rattle.chart.specs.Pairs.{pairs_sum, PairsWithin, PairAdded};
+ghost use Rattle.chart.specs.Columns.{SameColumn};
 
-use crate::cells::peek;
+use crate::cells::{add, peek};
+use crate::column::Column;
 use crate::pairs::{Pair, Pairs};
+use crate::weighed::WeighedRule;
 use book::alphabet::Alphabet;
-use book::books::ClosedBook;
 use conversion::right::Right;
-use conversion::strict::StrictRule;
 use weighing::weighing::Weighing;
 
-// No pair.
-pub(crate) fn no_pairs<W: Weighing>() -> Pairs<W::Value>
-    ensures { pairs_of result ≡ [] }
-{
-    let none = Pair {
-        symbol: 0,
-        left: 0,
-        weight: W::zero(),
-    };
-    Pairs {
-        list: [none; 1024],
-        count: 0,
-    }
-}
-
-impl<V: Copy> Pairs<V> {
-    // The pairs.
-    pub(crate) fn list(&self) -> &[Pair<V>]
-        ensures { result.now ≡ pairs_of self.now }
+impl<'t, 'p, A: Alphabet, W: Weighing> Column<'t, 'p, A, W> {
+    // The weight of a strict rule where it is a pattern rule that fits the event, else zero.
+    fn event_weight(&self, weighed: &WeighedRule<W::Value>, event: A::Event) -> W::Value
+        ensures { ForTests A.Alphabet.fits (λ test. result ≡ (if terminal_fits (closed_fits test self.now.book.now) event (right_side_of weighed.now.rule.right) then weighed.now.weight else W.Weighing.ops.zero)) }
     {
-        let all = &self.list[..];
-        &all[0..self.count]
-    }
-
-    // Takes all pairs out.
-    fn clear(&mut self)
-        ensures none { pairs_of self.new ≡ [] }
-        ensures count { self.new.count ≡ 0 }
-    {
-        self.count = 0;
-    }
-
-    // One pair more.
-    fn push(&mut self, pair: Pair<V>)
-        requires { self.old.count < 1024 }
-        ensures last { pairs_of self.new ≡ pairs_of self.old ++ (pair ∷ []) }
-        ensures count { self.new.count ≤ suc self.old.count }
-    {
-        let at = self.count;
-        self.list[at] = pair;
-        self.count = at + 1;
-    }
-}
-
-// The pair that a strict rule of this weight gives over the right cell, unless that leaves nothing of it.
-fn add_pair<W: Weighing>(
-    pairs: &mut Pairs<W::Value>,
-    rule: StrictRule,
-    weight: W::Value,
-    weights: &[W::Value],
-    right: usize,
-)
-    requires { (pairs.old.count < 1024) × (right ≤ 10000000) }
-    ensures { PairAdded W.Weighing.ops rule weight (cell_at W.Weighing.ops weights.now right) pairs.old pairs.new }
-{
-    if let Right::Binary(y, z) = rule.right {
-        let part = peek::<W>(weights, right + z as usize);
-        if !W::is_zero(part) {
-            pairs.push(Pair {
-                symbol: rule.symbol,
-                left: y,
-                weight: W::times(weight, part),
-            });
+        match weighed.rule.right {
+            Right::Terminal(t) if self.book.fits(t, event) => weighed.weight,
+            _ => W::zero(),
         }
     }
-}
 
-// The pairs over the right cell.
-pub(crate) fn gather<A: Alphabet, W: Weighing>(
-    pairs: &mut Pairs<W::Value>,
-    book: &ClosedBook<A>,
-    each: &[W::Value],
-    weights: &[W::Value],
-    right: usize,
-)
-    requires { (StrictWeights W.Weighing.ops (closed_book book.now) each.now) × (right ≤ 10000000) }
-    ensures sums { (left : ℕ → W.Value) (x : ℕ) → x < (binarised (closed_book book.now)).symbols → pairs_sum W.Weighing.ops left x (pairs_of pairs.new) ≡ over_parts (closed_book book.now) W.Weighing.ops left (cell_at W.Weighing.ops weights.now right) x }
-    ensures within { PairsWithin (binarised (closed_book book.now)).symbols (pairs_of pairs.new) }
-{
-    pairs.clear();
-    for (i, rule) in book.form().strict().iter().enumerate() {
-        add_pair::<W>(pairs, *rule, peek::<W>(each, i), weights, right);
+    // Adds to the last cell, over the event alone, the strict pattern rules whose pattern fits it.
+    pub(crate) fn one_event(&mut self, event: A::Event)
+        ensures outside { SameOutside W.Weighing.ops.zero (cell_place self.old.symbols self.old.end (self.old.end - 1)) (cell_place self.old.symbols self.old.end (self.old.end - 1) + self.old.symbols) self.old.weights.now self.new.weights.now }
+        ensures added { ForTests A.Alphabet.fits (λ test. Added W.Weighing.ops self.old.symbols (cell_place self.old.symbols self.old.end (self.old.end - 1)) (over_event (closed_book self.old.book.now) W.Weighing.ops (closed_fits test self.old.book.now) event) self.old.weights.now self.new.weights.now) }
+        ensures same { SameColumn self.old self.new }
+    {
+        let end = self.end;
+        let cell = self.cell(end, end - 1);
+        let symbols = self.symbols;
+        let rules = self.rules;
+        for weighed in rules {
+            let weight = self.event_weight(weighed, event);
+            add::<W>(self.weights, symbols, cell, weighed.rule.symbol, weight);
+        }
+    }
+
+    // The pair that a strict rule gives over the right cell, unless that leaves nothing of it.
+    fn add_pair(&self, pairs: &mut Pairs<W::Value>, weighed: &WeighedRule<W::Value>, right: usize)
+        requires few { array_vec_len pairs.old < 1024 }
+        requires small { right ≤ 10000000 }
+        ensures { PairAdded W.Weighing.ops weighed.now.rule weighed.now.weight (cell_at W.Weighing.ops self.now.weights.now right) pairs.old.items pairs.new.items }
+    {
+        if let Right::Binary(y, z) = weighed.rule.right {
+            let part = peek::<W>(self.weights, right + z as usize);
+            if !W::is_zero(part) {
+                pairs.push(Pair {
+                    symbol: weighed.rule.symbol,
+                    left: y,
+                    weight: W::times(weighed.weight, part),
+                });
+            }
+        }
+    }
+
+    // The pairs over the right cell.
+    pub(crate) fn gather(&self, pairs: &mut Pairs<W::Value>, right: usize)
+        requires { right ≤ 10000000 }
+        ensures sums { (left : ℕ → W.Value) (x : ℕ) → x < self.now.symbols → pairs_sum W.Weighing.ops left x pairs.new.items ≡ over_parts (closed_book self.now.book.now) W.Weighing.ops left (cell_at W.Weighing.ops self.now.weights.now right) x }
+        ensures within { PairsWithin self.now.symbols pairs.new.items }
+    {
+        pairs.clear();
+        for weighed in self.rules {
+            self.add_pair(pairs, weighed, right);
+        }
     }
 }

@@ -1,24 +1,23 @@
 // A chart: a closed book, the caller's table of weights, and the number of events held.
-ghost use Rattle.std.specs.Prelude.{◌≡◌, ℕ, ◌+◌, ◌<◌, Bool, List, [], ◌∷◌, ◌++◌, length, slice_index_or};
+ghost use Rattle.std.specs.Prelude.{◌≡◌, ℕ, ◌+◌, ◌<◌, ◌≤◌, Bool, List, [], ◌∷◌, ◌++◌, length, slice_index_or};
 ghost use Rattle.grammar.specs.Binarise.{binarised};
 ghost use Rattle.grammar.specs.Weights.{total_of};
 ghost use Rattle.book.specs.Fits.{ForTests};
 ghost use Rattle.book.specs.Books.{closed_book, closed_fits};
-ghost use Rattle.chart.specs.Table.{column_place, SameOutside, Room};
-ghost use Rattle.chart.specs.Weights.{StrictWeights};
+ghost use Rattle.chart.specs.Table.{column_place, SameOutside};
+ghost use Rattle.chart.specs.Weights.{rules_book, Weighs};
 ghost use Rattle.chart.specs.Charts.{HoldsChart};
-ghost use Rattle.chart.specs.Events.{Holds, chart_book, chart_fits};
-ghost use Rattle.chart.specs.Feeds.{Fed, FedEvent};
 ghost use Rattle.chart.specs.Totals.{TotalIs};
 
+use crate::blanks::Blanks;
 use crate::cells::{column_place, peek};
-use crate::columns::column;
+use crate::column::Column;
 use crate::fault::FeedFault;
-use crate::held::Held;
 use crate::nullable::nullable_weights;
-use crate::strict::strict_weights;
+use crate::weighed::WeighedRules;
 use book::alphabet::Alphabet;
 use book::books::ClosedBook;
+use book::converted::Converted;
 use weighing::bank::Bank;
 use weighing::weighing::Weighing;
 
@@ -30,46 +29,59 @@ const EVENTS: usize = 256;
 pub struct Chart<'b, 'p, 't, A: Alphabet, W: Weighing> {
     book: &'b ClosedBook<'p, A>,
     weights: &'t mut [W::Value],
-    held: Held,
+    events: usize,
+    ghost few: { events ≤ 256 },
 }
 
-// The weights of the strict rules, worked out anew.
-fn weigh<A: Alphabet, W: Weighing>(book: &ClosedBook<A>) -> [W::Value; 1024]
-    ensures { StrictWeights W.Weighing.ops (closed_book book.now) result }
+// The strict rules with their weights, worked out anew.
+fn weigh<W: Weighing>(converted: &Converted) -> WeighedRules<W::Value>
+    ensures { Weighs W.Weighing.ops (rules_book converted.now.rules) result.items }
 {
-    let bank = nullable_weights::<W, W::Values>(book.rules(), book.form());
-    strict_weights::<W, W::Values>(&bank, book.rules(), book.form())
+    let bank = nullable_weights::<W>(converted);
+    let blanks = Blanks::<W> {
+        converted,
+        bank: &bank,
+    };
+    blanks.strict_weights()
 }
 
 // The weight of head 0's chosen derivation of nothing, or zero.
 fn empty_total<A: Alphabet, W: Weighing>(book: &ClosedBook<A>) -> W::Value
     ensures { (fits : A.Event → ℕ → Bool) → result ≡ total_of (closed_book book.now) W.Weighing.ops fits [] }
 {
-    let bank = nullable_weights::<W, W::Values>(book.rules(), book.form());
-    bank.get(0)
+    nullable_weights::<W>(book.converted()).get(0)
 }
 
 // Works out the weights of the strict rules and fills the column of an event.
 fn fill<A: Alphabet, W: Weighing>(
     weights: &mut [W::Value],
     book: &ClosedBook<A>,
-    symbols: usize,
     end: usize,
     event: A::Event,
 )
-    requires symbols { symbols ≡ (binarised (closed_book book.now)).symbols }
-    requires room { Room symbols end (length weights.old) }
-    ensures outside { SameOutside W.Weighing.ops.zero (column_place symbols end) (column_place symbols (end + 1)) weights.old weights.new }
+    requires events { (0 < end) × (end ≤ 256) }
+    requires room { column_place (binarised (closed_book book.now)).symbols (end + 1) ≤ length weights.old }
+    ensures outside { SameOutside W.Weighing.ops.zero (column_place (binarised (closed_book book.now)).symbols end) (column_place (binarised (closed_book book.now)).symbols (end + 1)) weights.old weights.new }
     ensures chart { ForTests A.Alphabet.fits (λ test. (es : List A.Event) → length es + 1 ≡ end → HoldsChart (closed_book book.now) W.Weighing.ops (closed_fits test book.now) es weights.old → HoldsChart (closed_book book.now) W.Weighing.ops (closed_fits test book.now) (es ++ (event ∷ [])) weights.new) }
 {
-    let each = weigh::<A, W>(book);
-    column::<A, W>(weights, book, &each, symbols, end, event);
+    let rules = weigh::<W>(book.converted());
+    let mut column = Column::<A, W> {
+        book,
+        rules: rules.as_slice(),
+        weights,
+        symbols: book.symbols(),
+        end,
+    };
+    column.fill(event);
 }
 
 impl<'b, 'p, 't, A: Alphabet, W: Weighing> Chart<'b, 'p, 't, A, W> {
+    ghost use Rattle.chart.specs.Events.{Holds, chart_book, chart_fits};
+    ghost use Rattle.chart.specs.Feeds.{Fed, FedEvent};
+
     // A chart of no events over the table, which it leaves as it is.
     pub fn cut(book: &'b ClosedBook<'p, A>, weights: &'t mut [W::Value]) -> Chart<'b, 'p, 't, A, W>
-        ensures none { result.held.events ≡ 0 }
+        ensures none { result.events ≡ 0 }
         ensures holds { (test : A.Pattern → A.Event → Bool) → Holds W.Weighing.ops test result [] }
         ensures book { result.book.now ≡ book.now }
         ensures table { result.weights.now ≡ weights.old }
@@ -78,44 +90,43 @@ impl<'b, 'p, 't, A: Alphabet, W: Weighing> Chart<'b, 'p, 't, A, W> {
         Chart {
             book,
             weights,
-            held: Held { events: 0 },
+            events: 0,
         }
     }
 
     // How many events are held.
     pub fn held(&self) -> usize
-        ensures { result ≡ self.now.held.events }
+        ensures { result ≡ self.now.events }
     {
-        self.held.events
+        self.events
     }
 
     // One event more: how many are held then, or the refusal.
     pub fn feed(&mut self, event: A::Event) -> Result<usize, FeedFault>
-        ensures says { Fed W.Weighing.ops.zero self.old.book.now.converted.form.binarised.symbols self.old.weights.now self.old.held.events self.new.weights.now self.new.held.events result }
+        ensures says { Fed W.Weighing.ops.zero self.old.book.now.converted.form.binarised.symbols self.old.weights.now self.old.events self.new.weights.now self.new.events result }
         ensures chart { ForTests A.Alphabet.fits (λ test. FedEvent W.Weighing.ops test event self.old self.new result) }
         ensures book { self.new.book ≡ self.old.book }
         ensures same { self.new.weights.ghost_name ≡ self.old.weights.ghost_name }
     {
         let book = self.book;
-        let symbols = book.symbols();
-        let n = self.held();
-        if n >= EVENTS || self.weights.len() < column_place(symbols, n + 2) {
+        let n = self.events;
+        if n >= EVENTS || self.weights.len() < column_place(book.symbols(), n + 2) {
             return Err(FeedFault::NoRoom);
         }
-        fill::<A, W>(self.weights, book, symbols, n + 1, event);
-        self.held = Held { events: n + 1 };
+        fill::<A, W>(self.weights, book, n + 1, event);
+        self.events = n + 1;
         Ok(n + 1)
     }
 
     // Head 0's weight over all events held.
     pub fn total(&self) -> W::Value
-        ensures stands { 0 < self.now.held.events → result ≡ slice_index_or self.now.weights.now (column_place self.now.book.now.converted.form.binarised.symbols self.now.held.events) W.Weighing.ops.zero }
+        ensures stands { 0 < self.now.events → result ≡ slice_index_or self.now.weights.now (column_place self.now.book.now.converted.form.binarised.symbols self.now.events) W.Weighing.ops.zero }
         ensures means { ForTests A.Alphabet.fits (λ test. (es : List A.Event) → Holds W.Weighing.ops test self.now es → TotalIs (chart_book self.now) W.Weighing.ops (chart_fits test self.now) es result) }
     {
-        let n = self.held();
-        if n == 0 {
+        if self.events == 0 {
             return empty_total::<A, W>(self.book);
         }
-        peek::<W>(self.weights, column_place(self.book.symbols(), n))
+        let place = column_place(self.book.symbols(), self.events);
+        peek::<W>(self.weights, place)
     }
 }

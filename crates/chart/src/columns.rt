@@ -1,119 +1,106 @@
-// The columns of a chart's table.
-ghost use Rattle.std.specs.Prelude.{◌≡◌, ℕ, ◌+◌, ◌<◌, ◌≤◌, List, [], ◌∷◌, ◌++◌, length, slice_index_or};
+// How the column of an event is worked out.
+ghost use Rattle.std.specs.Prelude.{◌≡◌, ℕ, ◌+◌, ◌-◌, ◌<◌, ◌≤◌, List, [], ◌∷◌, ◌++◌, length};
 ghost use Rattle.book.specs.Fits.{ForTests};
 ghost use Rattle.book.specs.Books.{closed_book, closed_fits};
-ghost use Rattle.chart.specs.Table.{column_place, cell_place, cell_at, SameOutside, Added, AddedStarts, Room};
-ghost use Rattle.chart.specs.Weights.{OfBook};
-ghost use Rattle.chart.specs.Charts.{over_parts, HoldsChart};
+ghost use Rattle.chart.specs.Table.{column_place, cell_place, cell_at, SameOutside, Cleared, Added, AddedStarts};
+ghost use Rattle.chart.specs.Charts.{over_event, over_parts, HoldsChart};
 ghost use Rattle.chart.specs.Pairs.{pairs_sum, PairsWithin};
+ghost use Rattle.chart.specs.Columns.{SameColumn};
 
-use crate::active::{gather, no_pairs};
-use crate::cells::{add, cell_place, clear, column_place, one_event};
+use crate::cells::{add, cell_place, column_place, product};
+use crate::column::Column;
 use crate::pairs::{Pair, Pairs};
 use book::alphabet::Alphabet;
-use book::books::ClosedBook;
 use weighing::weighing::Weighing;
 
-// The weight at a place times another.
-fn product<W: Weighing>(weights: &[W::Value], place: usize, weight: W::Value) -> W::Value
-    requires { place < length weights.now }
-    ensures { result ≡ W.Weighing.ops.times (slice_index_or weights.now place W.Weighing.ops.zero) weight }
-{
-    W::times(weights[place], weight)
-}
+impl<'t, 'p, A: Alphabet, W: Weighing> Column<'t, 'p, A, W> {
+    // Where the cell of a start begins, in this column or an earlier one.
+    pub(crate) fn cell(&self, end: usize, start: usize) -> usize
+        requires { (start < end) × (end ≤ self.now.end) }
+        ensures is { result ≡ cell_place self.now.symbols end start }
+        ensures room { result + self.now.symbols ≤ length self.now.weights.now }
+        ensures small { result ≤ 10000000 }
+    {
+        cell_place(self.symbols, end, start)
+    }
 
-// Adds to the cell of a start what the pairs of the right part come to over the left part, up to the middle. The sum of a run of
-// pairs of one symbol is written once.
-fn add_pairs<W: Weighing>(
-    weights: &mut [W::Value],
-    pairs: &[Pair<W::Value>],
-    symbols: usize,
-    end: usize,
-    middle: usize,
-    start: usize,
-)
-    requires room { Room symbols end (length weights.old) }
-    requires parts { (start < middle) × (middle < end) }
-    requires within { PairsWithin symbols pairs.now }
-    ensures { Added W.Weighing.ops symbols (cell_place symbols end start) (λ x. pairs_sum W.Weighing.ops (cell_at W.Weighing.ops weights.old (cell_place symbols middle start)) x pairs.now) weights.old weights.new }
-{
-    let cell = cell_place(symbols, end, start);
-    let left = cell_place(symbols, middle, start);
-    let mut symbol = 0;
-    let mut sum = W::zero();
-    for pair in pairs {
-        if pair.symbol != symbol {
-            add::<W>(weights, symbols, cell, symbol, sum);
-            symbol = pair.symbol;
-            sum = W::zero();
+    // Writes zero to the cells of the column. A loop, since the library's fill asks for a clone that never fails, and a value of a
+    // weighing is only known to be Copy.
+    fn clear(&mut self)
+        ensures cleared { Cleared W.Weighing.ops (column_place self.old.symbols self.old.end) (column_place self.old.symbols (self.old.end + 1)) self.old.weights.now self.new.weights.now }
+        ensures same { SameColumn self.old self.new }
+    {
+        let from = column_place(self.symbols, self.end);
+        let to = column_place(self.symbols, self.end + 1);
+        for place in from..to {
+            self.weights[place] = W::zero();
         }
-        sum = W::plus(
-            sum,
-            product::<W>(weights, left + pair.left as usize, pair.weight),
-        );
     }
-    add::<W>(weights, symbols, cell, symbol, sum);
-}
 
-// Adds to the cell of each start before the middle what the pairs of the right part come to.
-fn add_starts<W: Weighing>(
-    weights: &mut [W::Value],
-    pairs: &[Pair<W::Value>],
-    symbols: usize,
-    end: usize,
-    middle: usize,
-)
-    requires room { Room symbols end (length weights.old) }
-    requires part { middle < end }
-    requires within { PairsWithin symbols pairs.now }
-    ensures { AddedStarts W.Weighing.ops symbols end middle (λ i x. pairs_sum W.Weighing.ops (cell_at W.Weighing.ops weights.old (cell_place symbols middle i)) x pairs.now) weights.old weights.new }
-{
-    for start in 0..middle {
-        add_pairs::<W>(weights, pairs, symbols, end, middle, start);
+    // Adds to the cell of a start what the pairs of the right part come to over the left part, up to the middle. The sum of a run
+    // of pairs of one symbol is written once.
+    fn add_pairs(&mut self, pairs: &[Pair<W::Value>], middle: usize, start: usize)
+        requires parts { (start < middle) × (middle < self.old.end) }
+        requires within { PairsWithin self.old.symbols pairs.now }
+        ensures added { Added W.Weighing.ops self.old.symbols (cell_place self.old.symbols self.old.end start) (λ x. pairs_sum W.Weighing.ops (cell_at W.Weighing.ops self.old.weights.now (cell_place self.old.symbols middle start)) x pairs.now) self.old.weights.now self.new.weights.now }
+        ensures same { SameColumn self.old self.new }
+    {
+        let end = self.end;
+        let cell = self.cell(end, start);
+        let left = self.cell(middle, start);
+        let symbols = self.symbols;
+        let weights = &mut *self.weights;
+        let mut symbol = 0;
+        let mut sum = W::zero();
+        for pair in pairs {
+            if pair.symbol != symbol {
+                add::<W>(weights, symbols, cell, symbol, sum);
+                symbol = pair.symbol;
+                sum = W::zero();
+            }
+            sum = W::plus(
+                sum,
+                product::<W>(weights, left + pair.left as usize, pair.weight),
+            );
+        }
+        add::<W>(weights, symbols, cell, symbol, sum);
     }
-}
 
-// Adds to the cell of each start before the middle what the strict pairs come to over the two parts that the middle cuts.
-fn add_middle<A: Alphabet, W: Weighing>(
-    weights: &mut [W::Value],
-    pairs: &mut Pairs<W::Value>,
-    book: &ClosedBook<A>,
-    each: &[W::Value],
-    symbols: usize,
-    end: usize,
-    middle: usize,
-)
-    requires book { OfBook W.Weighing.ops (closed_book book.now) symbols each.now }
-    requires room { Room symbols end (length weights.old) }
-    requires parts { (0 < middle) × (middle < end) }
-    ensures { AddedStarts W.Weighing.ops symbols end middle (λ i. over_parts (closed_book book.now) W.Weighing.ops (cell_at W.Weighing.ops weights.old (cell_place symbols middle i)) (cell_at W.Weighing.ops weights.old (cell_place symbols end middle))) weights.old weights.new }
-{
-    let right = cell_place(symbols, end, middle);
-    gather::<A, W>(pairs, book, each, weights, right);
-    add_starts::<W>(weights, pairs.list(), symbols, end, middle);
-}
+    // Adds to the cell of each start before the middle what the pairs of the right part come to.
+    fn add_starts(&mut self, pairs: &[Pair<W::Value>], middle: usize)
+        requires part { middle < self.old.end }
+        requires within { PairsWithin self.old.symbols pairs.now }
+        ensures added { AddedStarts W.Weighing.ops self.old.symbols self.old.end middle (λ i x. pairs_sum W.Weighing.ops (cell_at W.Weighing.ops self.old.weights.now (cell_place self.old.symbols middle i)) x pairs.now) self.old.weights.now self.new.weights.now }
+        ensures same { SameColumn self.old self.new }
+    {
+        for start in 0..middle {
+            self.add_pairs(pairs, middle, start);
+        }
+    }
 
-// The column of an event, from its last start to the first.
-pub(crate) fn column<A: Alphabet, W: Weighing>(
-    weights: &mut [W::Value],
-    book: &ClosedBook<A>,
-    each: &[W::Value],
-    symbols: usize,
-    end: usize,
-    event: A::Event,
-)
-    requires book { OfBook W.Weighing.ops (closed_book book.now) symbols each.now }
-    requires room { Room symbols end (length weights.old) }
-    ensures outside { SameOutside W.Weighing.ops.zero (column_place symbols end) (column_place symbols (end + 1)) weights.old weights.new }
-    ensures chart { ForTests A.Alphabet.fits (λ test. (es : List A.Event) → length es + 1 ≡ end → HoldsChart (closed_book book.now) W.Weighing.ops (closed_fits test book.now) es weights.old → HoldsChart (closed_book book.now) W.Weighing.ops (closed_fits test book.now) (es ++ (event ∷ [])) weights.new) }
-{
-    let from = column_place(symbols, end);
-    let to = column_place(symbols, end + 1);
-    clear::<W>(weights, from, to);
-    let last = cell_place(symbols, end, end - 1);
-    one_event::<A, W>(weights, book, each, symbols, last, event);
-    let mut pairs = no_pairs::<W>();
-    for middle in (1..end).rev() {
-        add_middle::<A, W>(weights, &mut pairs, book, each, symbols, end, middle);
+    // Adds to the cell of each start before the middle what the strict pairs come to over the two parts that the middle cuts.
+    fn add_middle(&mut self, pairs: &mut Pairs<W::Value>, middle: usize)
+        requires { (0 < middle) × (middle < self.old.end) }
+        ensures added { AddedStarts W.Weighing.ops self.old.symbols self.old.end middle (λ i. over_parts (closed_book self.old.book.now) W.Weighing.ops (cell_at W.Weighing.ops self.old.weights.now (cell_place self.old.symbols middle i)) (cell_at W.Weighing.ops self.old.weights.now (cell_place self.old.symbols self.old.end middle))) self.old.weights.now self.new.weights.now }
+        ensures same { SameColumn self.old self.new }
+    {
+        let end = self.end;
+        let right = self.cell(end, middle);
+        self.gather(pairs, right);
+        self.add_starts(pairs.as_slice(), middle);
+    }
+
+    // Works the column out, from its last start to the first.
+    pub(crate) fn fill(&mut self, event: A::Event)
+        ensures outside { SameOutside W.Weighing.ops.zero (column_place self.old.symbols self.old.end) (column_place self.old.symbols (self.old.end + 1)) self.old.weights.now self.new.weights.now }
+        ensures chart { ForTests A.Alphabet.fits (λ test. (es : List A.Event) → length es + 1 ≡ self.old.end → HoldsChart (closed_book self.old.book.now) W.Weighing.ops (closed_fits test self.old.book.now) es self.old.weights.now → HoldsChart (closed_book self.old.book.now) W.Weighing.ops (closed_fits test self.old.book.now) (es ++ (event ∷ [])) self.new.weights.now) }
+        ensures same { SameColumn self.old self.new }
+    {
+        self.clear();
+        self.one_event(event);
+        let mut pairs = Pairs::new_in(W::zero());
+        for middle in (1..self.end).rev() {
+            self.add_middle(&mut pairs, middle);
+        }
     }
 }

@@ -1,9 +1,12 @@
 // Why a call of a chart is refused.
-ghost use Rattle.std.specs.Prelude.{◌≡◌};
-ghost use Rattle.chart.specs.Faults.{feed_number};
+ghost use Rattle.std.specs.Prelude.{◌≡◌, Some};
+ghost use Rattle.chart.specs.Faults.{feed_number, feed_text};
+
+use std::error::Error;
+use std::fmt;
 
 // Why an event is refused.
-#[derive(Clone, Copy)]
+#[derive(Clone, Copy, Debug, PartialEq, Eq)]
 pub enum FeedFault {
     // 256 events are held, or the table is too short for one more
     NoRoom,
@@ -19,3 +22,15 @@ impl FeedFault {
         }
     }
 }
+
+impl fmt::Display for FeedFault {
+    ghost output = { λ f. Some (feed_text f) };
+
+    fn fmt<W: fmt::Write>(&self, f: &mut fmt::Formatter<W>) -> fmt::Result {
+        match self {
+            FeedFault::NoRoom => write!(f, "no room for one more event (refusal 11)"),
+        }
+    }
+}
+
+impl Error for FeedFault {}

@@ -2,12 +2,14 @@
 #![tactic(auto)]
 
 mod active;
+mod blanks;
 mod cells;
 pub mod chart;
+mod column;
 mod columns;
 pub mod fault;
-mod held;
 mod nullable;
 mod pairs;
 mod strict;
 pub mod totals;
+mod weighed;

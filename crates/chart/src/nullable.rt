@@ -1,12 +1,11 @@
 // The weights of binarised rules, and of the chosen derivations of nothing, worked out round by round.
-ghost use Rattle.std.specs.Prelude.{◌≡◌, suc, ◌≤◌};
+ghost use Rattle.std.specs.Prelude.{◌≡◌, suc};
 ghost use Rattle.grammar.specs.Weights.{binarised_weight};
 ghost use Rattle.conversion.specs.Views.{right_side_of};
-ghost use Rattle.conversion.specs.Forms.{FormOf};
 ghost use Rattle.chart.specs.Weights.{rules_book, right_weight, WeightsAfter, NullableWeights};
 
+use book::converted::Converted;
 use book::rules::Rules;
-use conversion::form::StrictForm;
 use conversion::nullable::Brought;
 use conversion::right::Right;
 use weighing::bank::Bank;
@@ -28,8 +27,8 @@ pub(crate) fn rule_weight<W: Weighing>(rules: &Rules, symbol: u8, number: u8) ->
 }
 
 // The weight of what a right side of nullable symbols stands for.
-fn right_weight<W: Weighing, B: Bank<Value = W::Value>>(bank: &B, right: Right) -> W::Value
-    ensures { result ≡ right_weight W.Weighing.ops (B.Bank.item bank.now) (right_side_of right) }
+fn right_weight<W: Weighing>(bank: &W::Values, right: Right) -> W::Value
+    ensures { result ≡ right_weight W.Weighing.ops (W.Values.Bank.item bank.now) (right_side_of right) }
 {
     match right {
         Right::Empty => W::one(),
@@ -40,36 +39,24 @@ fn right_weight<W: Weighing, B: Bank<Value = W::Value>>(bank: &B, right: Right) 
 }
 
 // The weight of the derivation of nothing that the chosen rule gives.
-fn brought_weight<W: Weighing, B: Bank<Value = W::Value>>(
-    bank: &B,
-    rules: &Rules,
-    symbol: u8,
-    by: Brought,
-) -> W::Value
-    ensures { result ≡ W.Weighing.ops.times (binarised_weight (rules_book rules.now) W.Weighing.ops symbol by.number) (right_weight W.Weighing.ops (B.Bank.item bank.now) (right_side_of by.right)) }
+fn brought_weight<W: Weighing>(bank: &W::Values, rules: &Rules, symbol: u8, by: Brought) -> W::Value
+    ensures { result ≡ W.Weighing.ops.times (binarised_weight (rules_book rules.now) W.Weighing.ops symbol by.number) (right_weight W.Weighing.ops (W.Values.Bank.item bank.now) (right_side_of by.right)) }
 {
     W::times(
         rule_weight::<W>(rules, symbol, by.number),
-        right_weight::<W, B>(bank, by.right),
+        right_weight::<W>(bank, by.right),
     )
 }
 
 // The symbols that came in in one round, from those of the rounds before.
-fn round<W: Weighing, B: Bank<Value = W::Value>>(
-    bank: &mut B,
-    rules: &Rules,
-    form: &StrictForm,
-    round: u8,
-)
-    requires formed { FormOf (rules_book rules.now) form.now }
-    requires wide { 128 ≤ B.Bank.size }
-    requires before { WeightsAfter W.Weighing.ops (rules_book rules.now) round (B.Bank.item bank.old) }
-    ensures { WeightsAfter W.Weighing.ops (rules_book rules.now) (suc round) (B.Bank.item bank.new) }
+fn round<W: Weighing>(bank: &mut W::Values, converted: &Converted, round: u8)
+    requires { WeightsAfter W.Weighing.ops (rules_book converted.now.rules) round (W.Values.Bank.item bank.old) }
+    ensures { WeightsAfter W.Weighing.ops (rules_book converted.now.rules) (suc round) (W.Values.Bank.item bank.new) }
 {
     for symbol in 0..128 {
-        if let Some(by) = form.brought(symbol) {
+        if let Some(by) = converted.brought(symbol) {
             if by.round == round {
-                let weight = brought_weight::<W, B>(bank, rules, symbol, by);
+                let weight = brought_weight::<W>(bank, converted.rules(), symbol, by);
                 bank.put(symbol as usize, weight);
             }
         }
@@ -77,17 +64,12 @@ fn round<W: Weighing, B: Bank<Value = W::Value>>(
 }
 
 // The weight of the chosen derivation of nothing for each nullable symbol, and zero for the others.
-pub(crate) fn nullable_weights<W: Weighing, B: Bank<Value = W::Value>>(
-    rules: &Rules,
-    form: &StrictForm,
-) -> B
-    requires formed { FormOf (rules_book rules.now) form.now }
-    requires wide { 128 ≤ B.Bank.size }
-    ensures { NullableWeights W.Weighing.ops (rules_book rules.now) (B.Bank.item result) }
+pub(crate) fn nullable_weights<W: Weighing>(converted: &Converted) -> W::Values
+    ensures { NullableWeights W.Weighing.ops (rules_book converted.now.rules) (W.Values.Bank.item result) }
 {
-    let mut bank = B::all(W::zero());
+    let mut bank = W::Values::all(W::zero());
     for at in 0..128 {
-        round::<W, B>(&mut bank, rules, form, at);
+        round::<W>(&mut bank, converted, at);
     }
     bank
 }

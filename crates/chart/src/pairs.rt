@@ -1,5 +1,6 @@
-// The strict pairs over a right part, in an array.
-ghost use Rattle.std.specs.Prelude.{◌≡◌, ◌≤◌, length};
+// The strict pairs over a right part.
+use arrayvec::ArrayVec;
+use std::default::MadeWith;
 
 // A strict pair over a right part: its symbol, the symbol of its left part, and its weight times that of the right part.
 #[derive(Clone, Copy)]
@@ -9,11 +10,16 @@ pub(crate) struct Pair<V> {
     pub(crate) weight: V,
 }
 
-// The first `count` of 1,024 places.
-#[derive(Drop)]
-pub(crate) struct Pairs<V> {
-    pub(crate) list: [Pair<V>; 1024],
-    pub(crate) count: usize,
-    ghost sized: { length list ≡ 1024 },
-    ghost few: { count ≤ 1024 },
+// What lies in a place that holds no pair.
+impl<V: Copy> MadeWith<V> for Pair<V> {
+    fn made_with(zero: V) -> Pair<V> {
+        Pair {
+            symbol: 0,
+            left: 0,
+            weight: zero,
+        }
+    }
 }
+
+// At most one pair for each strict rule.
+pub(crate) type Pairs<V> = ArrayVec<Pair<V>, 1024, V>;

@@ -1,4 +1,5 @@
-// What the totals of the three weighings say.
+// What the totals of the three weighings say. Three functions, and no trait: each has a promise of its own, and their one common
+// step is the chart's total.
 ghost use Rattle.std.specs.Prelude.{List};
 ghost use Rattle.weighing.specs.Values.{yes_no_ops, counts, least_costs};
 ghost use Rattle.book.specs.Fits.{ForTests};
@@ -13,8 +14,7 @@ use weighing::kinds::{Count, LeastCost, YesNo};
 pub fn explained<A: Alphabet>(chart: &Chart<A, YesNo>) -> bool
     ensures { ForTests A.Alphabet.fits (λ test. (es : List A.Event) → Holds yes_no_ops test chart.now es → Explained (chart_book chart.now) (chart_fits test chart.now) es result) }
 {
-    let verdict = chart.total();
-    verdict
+    chart.total()
 }
 
 // How many plain readings of the events held there are; 4294967295 stands for this and more.

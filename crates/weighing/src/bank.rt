@@ -2,7 +2,7 @@
 ghost use Rattle.std.specs.Prelude.{◌≡◌, ℕ, ◌*◌, ◌/◌, ◌%◌, ◌<◌, if◌then◌else◌, nat_eq};
 
 // A bank holds a value of any Copy type for each of its places (`Bank128`: for each of 128 symbols), as nested pairs,
-// so that no array of a generic type is needed. Even places lie in one half, odd places in the other.
+// so that no array of a generic type is needed: the project sets this form. Even places lie in one half, odd places in the other.
 pub trait Bank: Copy {
     type Value: Copy;
 

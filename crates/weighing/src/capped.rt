@@ -7,16 +7,32 @@ pub struct Capped {
     ghost top: { n ≤ 4294967295 },
 }
 
+impl From<u32> for Capped {
+    ghost from_gives = { λ n capped. capped.n ≡ n };
+
+    fn from(n: u32) -> Capped {
+        Capped { n }
+    }
+}
+
+impl From<Capped> for u32 {
+    ghost from_gives = { λ capped n. n ≡ capped.n };
+
+    fn from(capped: Capped) -> u32 {
+        capped.n
+    }
+}
+
 impl Capped {
     pub fn of(n: u32) -> Capped
         ensures { result.n ≡ n }
     {
-        Capped { n }
+        Capped::from(n)
     }
 
     pub fn value(self) -> u32
         ensures { result ≡ self.n }
     {
-        self.n
+        u32::from(self)
     }
 }

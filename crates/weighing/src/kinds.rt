@@ -1,5 +1,6 @@
 // Three weighings: whether there is a derivation, how many there are, and what the cheapest costs.
-ghost use Rattle.weighing.specs.Values.{yes_no_ops, counts, least_costs};
+ghost use Rattle.std.specs.Prelude.{◌≡◌, ◌+◌};
+ghost use Rattle.weighing.specs.Values.{held, yes_no_ops, counts, least_costs};
 ghost use Rattle.weighing.specs.Laws.{yes_no_ops_laws, counts_laws, least_costs_laws};
 ghost use Rattle.std.proofs.Common.{lit≤};
 
@@ -48,6 +49,13 @@ impl Weighing for YesNo {
     }
 }
 
+// The sum of two numbers, held at the largest of 32 bits.
+fn held_sum(a: Capped, b: Capped) -> Capped
+    ensures { result ≡ held (a.n + b.n) }
+{
+    Capped::of(a.value().saturating_add(b.value()))
+}
+
 // How many derivations there are, held at the largest number of 32 bits.
 pub struct Count {}
 
@@ -73,13 +81,11 @@ impl Weighing for Count {
     }
 
     fn plus(a: Capped, b: Capped) -> Capped {
-        let sum = a.value().saturating_add(b.value());
-        Capped::of(sum)
+        held_sum(a, b)
     }
 
     fn times(a: Capped, b: Capped) -> Capped {
-        let product = a.value().saturating_mul(b.value());
-        Capped::of(product)
+        Capped::of(a.value().saturating_mul(b.value()))
     }
 
     fn weight(_cost: u16) -> Capped {
@@ -108,7 +114,7 @@ impl Weighing for LeastCost {
     ghost wide = { lit≤ tt };
 
     fn zero() -> Capped {
-        Capped::of(4294967295)
+        Capped::of(u32::MAX)
     }
 
     fn one() -> Capped {
@@ -116,20 +122,18 @@ impl Weighing for LeastCost {
     }
 
     fn plus(a: Capped, b: Capped) -> Capped {
-        let cheaper = a.value().min(b.value());
-        Capped::of(cheaper)
+        Capped::of(a.value().min(b.value()))
     }
 
-    fn times(a: Capped, b: Capped) -> Capped {
-        let cost = a.value().saturating_add(b.value());
-        Capped::of(cost)
+    fn times(cost: Capped, more: Capped) -> Capped {
+        held_sum(cost, more)
     }
 
     fn weight(cost: u16) -> Capped {
-        Capped::of(cost as u32)
+        Capped::of(u32::from(cost))
     }
 
     fn is_zero(v: Capped) -> bool {
-        v.value() == 4294967295
+        v.value() == u32::MAX
     }
 }

@@ -6,4 +6,5 @@ use Rattle.chart.proofs.totals.explained.Goals as goal
 pub returns : goal.returns
 returns g c test exact es h =
     let k = c.args.chart.now in
-    explained_by (chart_book k) (book_sound k.book.now) (chart_fits test k) es _ (cc (c.total-verdict.ensures.means test exact es h).is_total)
+    let total = (c.total.ensures.means test exact es h).is_total in
+    explained_by (chart_book k) (book_sound k.book.now) (chart_fits test k) es _ (cc total)

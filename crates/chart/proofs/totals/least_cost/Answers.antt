@@ -7,4 +7,5 @@ use Rattle.chart.proofs.totals.least_cost.Goals as goal
 pub returns : goal.returns
 returns g c test exact es h =
     let k = c.args.chart.now in
-    least_by (chart_book k) (book_sound k.book.now) (chart_fits test k) es _ c.total-cost.result (omega (arith, c.value.ensures)) (c.total-cost.ensures.means test exact es h).is_total
+    let total = (c.total-cost.ensures.means test exact es h).is_total in
+    least_by (chart_book k) (book_sound k.book.now) (chart_fits test k) es _ c.total-cost.result (omega (arith, c.value.ensures)) total

@@ -7,4 +7,5 @@ use Rattle.chart.proofs.totals.readings.Goals as goal
 pub returns : goal.returns
 returns g c test exact es h =
     let k = c.args.chart.now in
-    counted_by (chart_book k) (book_sound k.book.now) (chart_fits test k) es _ c.total-count.result (omega (arith, c.value.ensures)) (c.total-count.ensures.means test exact es h).is_total
+    let total = (c.total-count.ensures.means test exact es h).is_total in
+    counted_by (chart_book k) (book_sound k.book.now) (chart_fits test k) es _ c.total-count.result (omega (arith, c.value.ensures)) total

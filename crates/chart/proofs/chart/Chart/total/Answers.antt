@@ -1,18 +1,18 @@
-use Rattle.std.proofs.Common.{sym, ◌∙◌, arith}
+use Rattle.std.proofs.Common.{◌∙◌, arith}
 use Rattle.chart.specs.Events.{chart_book, chart_fits}
 use Rattle.chart.proofs.OfBook.{book_sound}
 use Rattle.chart.proofs.Totalling.{total_is, total_nothing, total_cell}
 use Rattle.chart.proofs.chart.Chart.total.Goals as goal
 
-pub returns-then-n-eq0-clause-means : goal.returns-then-n-eq0-clause-means
-returns-then-n-eq0-clause-means g c test exact es h =
+pub returns-then-self-eq0-clause-means : goal.returns-then-self-eq0-clause-means
+returns-then-self-eq0-clause-means g c test exact es h =
     let k = c.args.self.now in
     let W = chart_book k in
     let fits = chart_fits test k in
     let M = g.W.Weighing.ops in
     let L = g.met.W.Weighing.semiring in
     total_is W (book_sound k.book.now) M L fits es _
-    (total_nothing W (book_sound k.book.now) M L fits es c.empty_total.result (h.many ∙ sym c.held-n.ensures ∙ c.if-n-eq0.true) (c.empty_total.ensures fits))
+    (total_nothing W (book_sound k.book.now) M L fits es c.empty_total.result (h.many ∙ c.if-self-eq0.true) (c.empty_total.ensures fits))
 
 pub returns-clause-means : goal.returns-clause-means
 returns-clause-means g c test exact es h =
@@ -21,6 +21,6 @@ returns-clause-means g c test exact es h =
     let fits = chart_fits test k in
     let M = g.W.Weighing.ops in
     let L = g.met.W.Weighing.semiring in
-    let cell = total_cell W (book_sound k.book.now) M L fits es k.weights.now c.symbols.result c.held-n.result c.column_place.result c.peek.result
-    c.symbols.ensures.means (omega (arith, c.symbols.ensures.means, c.symbols.ensures.least)) (h.many ∙ sym c.held-n.ensures) (omega (arith, c.if-n-eq0.false)) (omega (arith, c.column_place.ensures)) h.chart c.peek.ensures in
+    let cell = total_cell W (book_sound k.book.now) M L fits es k.weights.now c.symbols.result k.events c.column_place-place.result c.peek.result
+    c.symbols.ensures.means (omega (arith, c.symbols.ensures.means, c.symbols.ensures.least)) h.many (omega (arith, c.if-self-eq0.false)) c.column_place-place.ensures h.chart c.peek.ensures in
     total_is W (book_sound k.book.now) M L fits es _ (cc)
