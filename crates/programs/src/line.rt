@@ -2,7 +2,8 @@
 ghost use Rattle.std.specs.Prelude.{◌≡◌, ◌<◌, length, IfOk, string_bytes, codes};
 
 use crate::divide::{Parts, divide};
-use crate::traces::Tables;
+use crate::patterns::PATTERNS;
+use crate::totals::Tables;
 use book::alphabet::Bytes;
 use book::books::{ClosedBook, OpenBook};
 use book::table::PatternTable;
@@ -13,7 +14,10 @@ use text::words::line_end;
 pub const LIMIT: usize = 32_768;
 
 // The patterns: the small letters.
-static LETTERS: [u8; 26] = *b"abcdefghijklmnopqrstuvwxyz";
+const LETTERS: usize = 26;
+
+// The number of weights of each table.
+const WEIGHTS: usize = 15_360;
 
 // The line for one trace.
 fn trace_line(
@@ -24,12 +28,7 @@ fn trace_line(
 ) -> Result<String, AllocError> {
     let length = trace.len();
     match tables.totals(book, trace) {
-        Ok(totals) => {
-            let verdict = if totals.verdict { "yes" } else { "no" };
-            let count = totals.count;
-            let least = totals.least;
-            format!(in heap; "{length} {verdict} {count} {least}\n")
-        }
+        Ok(totals) => format!(in heap; "{length} {totals}\n"),
         Err(fault) => {
             let number = fault.number();
             format!(in heap; "{length} refused {number}\n")
@@ -44,7 +43,7 @@ fn trace_lines(
     traces: &[u8],
 ) -> Result<String, AllocError> {
     let mut out = String::new(heap);
-    let mut tables = Tables::new(heap)?;
+    let mut tables = Tables::new(heap, WEIGHTS)?;
     let mut from = 0;
     while from < traces.len() {
         let end = line_end(traces, from);
@@ -73,7 +72,7 @@ pub fn line(heap: Global, input: &[u8]) -> Result<String, AllocError>
     if input.len() > LIMIT {
         return format!(in heap; "refused 25\n");
     }
-    match PatternTable::check(&LETTERS) {
+    match PatternTable::check(&PATTERNS[..LETTERS]) {
         Ok(table) => loaded(heap, OpenBook::new(table), divide(input)),
         Err(_) => unreachable(),
     }
