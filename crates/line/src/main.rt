@@ -7,9 +7,7 @@ use std::io::Read;
 // Standard input to its end, or one byte more than the program takes.
 fn read_input(rt: &HostRuntime) -> anyhow::Result<Vec<u8>> {
     let mut input = Vec::new(rt.alloc());
-    rt.stdin()
-        .take(LIMIT as u64 + 1)
-        .read_to_end(&mut input)?;
+    rt.stdin().take(LIMIT as u64 + 1).read_to_end(&mut input)?;
     Ok(input)
 }
 

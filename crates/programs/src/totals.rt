@@ -1,7 +1,9 @@
 // The totals of a trace by the three weighings.
-ghost use Rattle.std.specs.Prelude.{◌≡◌, List, ◌++◌, IfOk};
+ghost use Rattle.std.specs.Prelude.{◌≡◌, ◌+◌, ◌<◌, ◌≤◌, List, ◌++◌, IfOk, MatchOption};
+ghost use Rattle.grammar.specs.Binarise.{binarised};
 ghost use Rattle.book.specs.Books.{closed_book, closed_fits};
 ghost use Rattle.book.specs.Fits.{ForTests};
+ghost use Rattle.chart.specs.Table.{column_place};
 ghost use Rattle.chart.specs.Events.{Holds};
 ghost use Rattle.chart.specs.Totals.{Explained, CountsReadings, IsLeastCost};
 ghost use Rattle.programs.specs.Answers.{AreTotals};
@@ -16,6 +18,9 @@ use std::fmt;
 use weighing::capped::Capped;
 use weighing::kinds::{Count, LeastCost, YesNo};
 use weighing::weighing::Weighing;
+
+// So many events a chart holds at most.
+const EVENTS: usize = 256;
 
 // Whether there is a reading, printed as a word.
 #[derive(Clone, Copy, PartialEq, Eq, Debug)]
@@ -39,6 +44,16 @@ impl fmt::Display for Totals {
     fn fmt<W: fmt::Write>(&self, f: &mut fmt::Formatter<W>) -> fmt::Result {
         write!(f, "{} {} {}", self.verdict, self.count, self.least)
     }
+}
+
+// How many weights a chart's table has for so many events, unless they are more than a chart holds.
+pub fn room<A: Alphabet>(book: &ClosedBook<A>, events: usize) -> Option<usize>
+    ensures { MatchOption result (256 < events) (λ n. (events ≤ 256) × (n ≡ column_place (binarised (closed_book book.now)).symbols (events + 1))) }
+{
+    if events > EVENTS {
+        return None;
+    }
+    Some(events * (events + 1) / 2 * book.symbols())
 }
 
 // Feeds a trace to a chart, up to the first event that is refused.
