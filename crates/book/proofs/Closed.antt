@@ -1,5 +1,5 @@
 -- What a closed book has.
-use Rattle.std.proofs.Common.{◌≡◌, ℕ, List, [], ◌∷◌, map, get_or, take, refl, ap, ◌∙◌, arith}
+use Rattle.std.proofs.Common.{◌≡◌, ℕ, List, [], ◌∷◌, map, get_or, refl, ap, ◌∙◌, arith}
 use mathlib.Core.Logic.{∥∥₁_elim}
 use native.Mathlib.Nat.{ℕ_set}
 use base.Stored.{Coded, coded_ℕ, coded_list, coded_via, Coded-set}
@@ -14,19 +14,18 @@ use Rattle.conversion.specs.declared.form.StrictForm.{StrictForm}
 use Rattle.conversion.specs.declared.strict.StrictRule.{StrictRule}
 use Rattle.conversion.specs.Views.{strict_rule_of}
 use Rattle.conversion.specs.Forms.{FormOf}
+use Rattle.book.specs.declared.converted.Converted.{Converted}
+use Rattle.book.specs.Rules.{rules_book}
 use Rattle.book.specs.Books.{StrictRulesAre}
 use Rattle.book.proofs.Props.{admitted_of}
 
--- the strict rules in the array
+-- the strict rules that the form holds
 abbrev in_array : StrictForm → List StrictFormRule
-in_array f = map strict_rule_of (take f.strict.count f.strict.rules)
+in_array f = map strict_rule_of f.strict.rules.items
 
 -- they are all of them, since these fit
 pub listed : (W : Book) (f : StrictForm) → Admitted W → FormOf W f → in_array f ≡ strict_rules (binarised W)
 listed W f a form = form.strict.0 ∙ take_all 1024 (strict_rules (binarised W)) a.few_strict
-
-pub closed_are : (E : Type 0) (W : Book) (f : StrictForm) → Admitted W → FormOf W f → StrictRulesAre E W (in_array f)
-closed_are E W f a form = record { listed = listed W f a form; only = strict_listed W a.sound; language = strict_forms E W a.sound }
 
 -- a strict rule as numbers, from which it can be told
 
@@ -84,8 +83,15 @@ pub strict_kept : (W : Book) (f : StrictForm) → ∥ Admitted W ∥₁ → ∥ 
 strict_kept W f a t = ∥∥₁_elim t (Coded-set (coded_list coded_rule) (in_array f) (strict_rules (binarised W))) (λ form. listed W f (admitted_of W a) form)
 
 -- the strict rules as they are lent
-pub strict_lent : (W : Book) (f : StrictForm) (l : List StrictRule) → l ≡ take f.strict.count f.strict.rules → ∥ Admitted W ∥₁ → ∥ FormOf W f ∥₁ → map strict_rule_of l ≡ strict_rules (binarised W)
+pub strict_lent : (W : Book) (f : StrictForm) (l : List StrictRule) → l ≡ f.strict.rules.items → ∥ Admitted W ∥₁ → ∥ FormOf W f ∥₁ → map strict_rule_of l ≡ strict_rules (binarised W)
 strict_lent W f l e a t = ap (map strict_rule_of) e ∙ strict_kept W f a t
+
+-- of rules with their strict form
+pub closed_converted : (E : Type 0) (c : Converted) → StrictRulesAre E (rules_book c.rules) (in_array c.form)
+closed_converted E c =
+    let W = rules_book c.rules in
+    let a = admitted_of W c.rules.admitted in
+    record { listed = strict_kept W c.form c.rules.admitted c.formed; only = strict_listed W a.sound; language = strict_forms E W a.sound }
 
 pub symbols_kept : (W : Book) (f : StrictForm) → ∥ FormOf W f ∥₁ → f.binarised.symbols ≡ (binarised W).symbols
 symbols_kept W f t = ∥∥₁_elim t (ℕ_set f.binarised.symbols (binarised W).symbols) (λ form. form.symbols)

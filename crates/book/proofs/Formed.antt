@@ -13,7 +13,7 @@ use Rattle.conversion.specs.declared.form.StrictForm.{StrictForm}
 use Rattle.conversion.specs.declared.nullable.Brought.{Brought}
 use Rattle.conversion.specs.declared.chain.UnitStep.{UnitStep}
 use Rattle.conversion.specs.declared.chain.Chain.{Chain}
-use Rattle.conversion.specs.declared.chain.Chain.TheVariants.{Absent, Empty, Steps}
+use Rattle.conversion.specs.declared.chain.Chain.TheVariants.{Empty, Steps}
 use Rattle.conversion.specs.Views.{step_of}
 use Rattle.conversion.specs.Held.{BroughtIn}
 use Rattle.conversion.specs.Linked.{Shortest, Chosen}
@@ -76,10 +76,10 @@ module _ (B : Binarised) where
         is_prop→PathP (λ i. step_of s ≡ first_step B y (p i) x) (λ i. Coded-set coded_step _ _) a.4 b.4 i,
       )
 
-  chosen_prop : (x y : ℕ) (o : Chain) (a b : Chosen B x y o) → a ≡ b
-  chosen_prop x y Absent a b = Bool-set _ _ a b
-  chosen_prop x y Empty a b = ℕ_set x y a b
-  chosen_prop x y (Steps k s) a b = λ i. (Bool-set _ _ a.0 b.0 i, shortest_prop x y k s a.1 b.1 i)
+  chosen_prop : (x y : ℕ) (o : Option Chain) (a b : Chosen B x y o) → a ≡ b
+  chosen_prop x y None a b = Bool-set _ _ a b
+  chosen_prop x y (Some Empty) a b = ℕ_set x y a b
+  chosen_prop x y (Some (Steps k s)) a b = λ i. (Bool-set _ _ a.0 b.0 i, shortest_prop x y k s a.1 b.1 i)
 
 form_prop : (W : Book) (f : StrictForm) (a b : FormOf W f) → a ≡ b
 form_prop W f a b = λ i. record {

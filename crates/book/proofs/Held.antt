@@ -1,10 +1,10 @@
--- The rows in use, as a list.
-use Rattle.std.proofs.Common.{◌≡◌, ℕ, zero, ◌<◌, ◌≤◌, List, [], map, length, get_or, take, sym, refl, ap, ◌∙◌, inl, inr, arith}
-use Rattle.std.proofs.lemmas.List.{length-take-le, length-map, get_or-map, get_or_past, get_or-take}
+-- The rules held, as a list.
+use Rattle.std.proofs.Common.{◌≡◌, ℕ, zero, ◌<◌, List, [], map, length, get_or, sym, ap, ◌∙◌, inl, inr, arith}
+use Rattle.std.proofs.lemmas.List.{length-map, get_or-map, get_or_past}
 use Rattle.std.proofs.lemmas.Bool.{cases_lt}
 use Rattle.grammar.specs.Productions.{Production, Book, production, cost_of as cost_in}
 use Rattle.conversion.specs.Rows.{production_of}
-use Rattle.conversion.proofs.Pushes.{held_length}
+use Rattle.arrayvec.specs.ArrayVec.{array_vec_len}
 use Rattle.book.specs.declared.rules.Rules.{Rules}
 use Rattle.book.specs.Rules.{held, cost_of}
 
@@ -12,13 +12,9 @@ use Rattle.book.specs.Rules.{held, cost_of}
 pub seen : {A B : Type 0} (f : A → B) (xs : List A) (ys : List B) (k : ℕ) (x : A) → map f xs ≡ ys → k < length xs → (d : B) → f (get_or xs k x) ≡ get_or ys k d
 seen f xs ys k x e h d = sym (get_or-map f xs k x d h) ∙ ap (λ l. get_or l k d) e
 
--- what stands in a place in use
-pub in_place : {A B : Type 0} (f : A → B) (xs : List A) (n k : ℕ) (x : A) → k < n → n ≤ length xs → (d : B) → f (get_or xs k x) ≡ get_or (map f (take n xs)) k d
-in_place f xs n k x h l d = ap f (sym (get_or-take n xs k x h)) ∙ seen f (take n xs) (map f (take n xs)) k x refl (omega (arith, length-take-le n xs l)) d
-
 -- how many rules are held
-pub many : (b : Rules) → length (held b) ≡ b.count
-many b = held_length production_of b.rows b.count (omega (arith, b.few, b.sized))
+pub many : (b : Rules) → length (held b) ≡ array_vec_len b.rows
+many b = length-map b.rows.items production_of
 
 -- the cost of a rule is that of the book's production of that number
 pub cost_same : (W : Book) (n : ℕ) → cost_of W.productions n ≡ cost_in W n

@@ -2,6 +2,7 @@ pub mod FitsAt
 pub mod Held
 pub mod Refused
 pub mod NoRules
+pub mod Some
 pub mod Props
 pub mod Closed
 pub mod Formed

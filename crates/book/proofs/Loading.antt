@@ -1,9 +1,12 @@
 -- What a load does, line by line.
-use Rattle.std.proofs.Common.{◌≡◌, ℕ, suc, ◌+◌, ◌-◌, ◌<◌, ◌≤◌, Bool, true, false, cond, eqb, ltb, leb, List, [], ◌∷◌, ◌++◌, map, length, take, drop, sym, refl, ap, ◌∙◌, ⊎_elim, arith}
+use Rattle.std.proofs.Common.{◌≡◌, ℕ, suc, ◌+◌, ◌-◌, ◌<◌, ◌≤◌, Bool, true, false, cond, eqb, ltb, leb, List, [], ◌∷◌, ◌++◌, map, length, take, drop, sym, refl, ap, ◌∙◌, subst, ⊎_elim, arith}
 use Rattle.std.proofs.lemmas.List.{take_all, length-take, length-take-le, length-drop, drop-take, drop_all}
 use Rattle.std.proofs.lemmas.Bool.{both_ways, cases_Bool, cond-true, cond-false, eq-eqb, ne_eqb, leb-false, lt-ltb, le-ltb}
 use Rattle.std.proofs.lemmas.Bool.Decides.{nat_tests}
 use Rattle.text.specs.Words.{Piece, piece, pieces, ends_line, lines, words, line_words, IsLineEnd}
+use Rattle.text.specs.Turns.{words_of, outcome_of, IsNextLine}
+use Rattle.text.specs.declared.lines.Line.{Line}
+use Rattle.text.specs.declared.lines.Lines.{Lines}
 use Rattle.text.specs.Outcomes.{Outcome, nothing, rule, fault, written, line, line_text, Writable, first_nine, in_nine}
 use Rattle.text.proofs.Wording.{pieces_last, pieces_split, line_at}
 use Rattle.text.proofs.Cutting.{cut_into}
@@ -117,7 +120,7 @@ module _ (T : ℕ) (xs t : List ℕ) (from e : ℕ) (h : from ≤ length xs) (en
       ∙ ap (λ j. and_then (offer_line T rules n (first_place line_there) (line j line_there)) (λ held m. load_lines T held m (cond (ltb e (length xs)) (lines (e + 1) (drop (e + 1) xs)) []))) its_end
 
   -- it was taken: the rest goes on
-  pub line_on : (whole : Load) (rules is : List Production) (n m : ℕ) → whole ≡ load_lines T rules n (lines from (drop from xs))
+  line_on : (whole : Load) (rules is : List Production) (n m : ℕ) → whole ≡ load_lines T rules n (lines from (drop from xs))
       → taken is m ≡ offer_line T rules n (first_place line_there) (line (length t) line_there)
       → (e + 1 ≤ length xs → whole ≡ load_lines T is m (lines (e + 1) (drop (e + 1) xs))) × (length xs < e + 1 → whole ≡ taken is m)
   unfolding load_lines
@@ -129,11 +132,30 @@ module _ (T : ℕ) (xs t : List ℕ) (from e : ℕ) (h : from ≤ length xs) (en
       )
 
   -- it was refused: the load ends
-  pub line_stops : (whole : Load) (rules is : List Production) (n number at : ℕ) → whole ≡ load_lines T rules n (lines from (drop from xs))
+  line_stops : (whole : Load) (rules is : List Production) (n number at : ℕ) → whole ≡ load_lines T rules n (lines from (drop from xs))
       → stopped is number at ≡ offer_line T rules n (first_place line_there) (line (length t) line_there) → whole ≡ stopped is number at
   line_stops whole rules is n number at w o =
       let rest = cond (ltb e (length xs)) (lines (e + 1) (drop (e + 1) xs)) [] in
       w ∙ step rules n ∙ ap (λ (z : Load). and_then z (λ held m. load_lines T held m rest)) (sym o)
+
+-- the next line is taken: the lines still to come go on with the rest
+pub line_taken : (T : ℕ) (xs : List ℕ) (was is : Lines) (l : Line) (whole : Load) (rules held : List Production) (n m : ℕ) → was.text.now ≡ xs → IsNextLine was l is
+    → (was.from ≤ length xs → whole ≡ load_lines T rules n (lines was.from (drop was.from xs))) → taken held m ≡ offer_line T rules n (first_place (words_of l)) (outcome_of l)
+    → (is.from ≤ length xs → whole ≡ load_lines T held m (lines is.from (drop is.from xs))) × (length xs < is.from → whole ≡ taken held m)
+line_taken T xs was is l whole rules held n m e h w o =
+    let k : was.from < length xs = omega (arith, h.some, ap length e) in
+    let there = subst (λ j. whole ≡ load_lines T rules n (lines j (drop j xs))) (sym h.begins) (w (omega arith)) in
+    let rest = line_on T xs l.text.now l.from (length l.text.now) (omega (arith, h.begins)) (subst (λ x. IsLineEnd x l.from (length l.text.now)) e h.ends) (h.part ∙ ap (take (length l.text.now)) e) whole rules held n m there o in
+    subst (λ j. (j ≤ length xs → whole ≡ load_lines T held m (lines j (drop j xs))) × (length xs < j → whole ≡ taken held m)) (sym h.past) rest
+
+-- the next line is refused: the load ends
+pub line_refuses : (T : ℕ) (xs : List ℕ) (was is : Lines) (l : Line) (whole : Load) (rules held : List Production) (n number at : ℕ) → was.text.now ≡ xs → IsNextLine was l is
+    → (was.from ≤ length xs → whole ≡ load_lines T rules n (lines was.from (drop was.from xs))) → stopped held number at ≡ offer_line T rules n (first_place (words_of l)) (outcome_of l)
+    → whole ≡ stopped held number at
+line_refuses T xs was is l whole rules held n number at e h w o =
+    let k : was.from < length xs = omega (arith, h.some, ap length e) in
+    let there = subst (λ j. whole ≡ load_lines T rules n (lines j (drop j xs))) (sym h.begins) (w (omega arith)) in
+    line_stops T xs l.text.now l.from (length l.text.now) (omega (arith, h.begins)) (subst (λ x. IsLineEnd x l.from (length l.text.now)) e h.ends) (h.part ∙ ap (take (length l.text.now)) e) whole rules held n number at there o
 
 -- the text ends
 pub text_ends : (T : ℕ) (rules : List Production) (n : ℕ) (xs : List ℕ) → load_lines T rules n (lines (length xs) (drop (length xs) xs)) ≡ taken rules n

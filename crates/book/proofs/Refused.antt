@@ -3,12 +3,12 @@ use Rattle.std.proofs.Common.{◌≡◌, ℕ, ◌+◌, ◌<◌, ◌≤◌, Bool,
 use Rattle.std.proofs.lemmas.Bool.Decides.{nat_tests}
 use Rattle.std.proofs.lemmas.Bool.{cases_lt, le-leb, eq-eqb}
 use Rattle.grammar.specs.Lists.{Mem, some_of, same_numbers}
-use Rattle.grammar.specs.Productions.{Production, all_tails, SameRule, Sound}
-use Rattle.grammar.specs.Binarise.{binarised}
+use Rattle.grammar.specs.Productions.{Production, Book, all_tails, SameRule, Sound}
+use Rattle.grammar.specs.Binarise.{binarised, Admitted}
 use Rattle.grammar.specs.Strict.{strict_rules}
 use Rattle.grammar.proofs.Lists.{some_from}
 use Rattle.grammar.proofs.Offers.{offered_sound}
-use Rattle.book.specs.Offers.{book, refusal, same_rule}
+use Rattle.book.specs.Offers.{book, refusal, same_rule, size_refusal}
 use Rattle.book.specs.Faults.{offer_number}
 use Rattle.book.specs.declared.fault.OfferFault.{OfferFault}
 use Rattle.book.specs.declared.fault.OfferFault.TheVariants.{HeadTooLarge, TooManyItems, UnknownItem, Repeated, BookFull, TooManyTails, TooManyStrictRules}
@@ -26,43 +26,24 @@ five_on h n u s rest a b c d = grind (arith, nat_tests)
 full : (n rest : ℕ) → 64 ≤ n → cond (leb 64 n) 5 rest ≡ 5
 full n rest h = grind (arith, nat_tests)
 
-six : (n t rest : ℕ) → n < 64 → 64 < t → cond (leb 64 n) 5 (cond (ltb 64 t) 6 rest) ≡ 6
-six n t rest h k = grind (arith, nat_tests)
-
-seven : (n t s : ℕ) → n < 64 → t ≤ 64 → 1024 < s → ◌≡◌ {A = ℕ} (cond (leb 64 n) 5 (cond (ltb 64 t) 6 (cond (ltb 1024 s) 7 0))) 7
-seven n t s h k l = grind (arith, nat_tests)
-
-none : (n t s : ℕ) → n < 64 → t ≤ 64 → s ≤ 1024 → ◌≡◌ {A = ℕ} (cond (leb 64 n) 5 (cond (ltb 64 t) 6 (cond (ltb 1024 s) 7 0))) 0
-none n t s h k l = grind (arith, nat_tests)
+room : (n rest : ℕ) → n < 64 → cond (leb 64 n) 5 rest ≡ rest
+room n rest h = grind (arith, nat_tests)
 
 module _ (T : ℕ) (rules : List Production) (p : Production) where
-  -- the number of tails with the new rule in
-  abbrev pub tails_then : ℕ
-  tails_then = all_tails (rules ++ (p ∷ []))
+  -- the refusal for its size of the book with the new rule in
+  abbrev then : ℕ
+  then = size_refusal (book T (rules ++ (p ∷ [])))
 
-  -- the number of strict rules with the new rule in
-  abbrev pub strict_then : ℕ
-  strict_then = length (strict_rules (binarised (book T (rules ++ (p ∷ [])))))
-
-  past : PastFour T rules p → refusal T rules p ≡ cond (leb 64 (length rules)) 5 (cond (ltb 64 tails_then) 6 (cond (ltb 1024 strict_then) 7 0))
-  past h = five_on p.head (length p.right) (some_of (leb (32 + T)) p.right) (some_of (same_rule p) rules)
-      (cond (leb 64 (length rules)) 5 (cond (ltb 64 tails_then) 6 (cond (ltb 1024 strict_then) 7 0))) h.head h.short h.known h.new
+  past : PastFour T rules p → refusal T rules p ≡ cond (leb 64 (length rules)) 5 then
+  past h = five_on p.head (length p.right) (some_of (leb (32 + T)) p.right) (some_of (same_rule p) rules) (cond (leb 64 (length rules)) 5 then) h.head h.short h.known h.new
 
   -- 64 rules are held
   pub meets_five : PastFour T rules p → 64 ≤ length rules → refusal T rules p ≡ 5
-  meets_five h f = past h ∙ full (length rules) (cond (ltb 64 tails_then) 6 (cond (ltb 1024 strict_then) 7 0)) f
+  meets_five h f = past h ∙ full (length rules) then f
 
-  -- there are too many tails
-  pub meets_six : PastFour T rules p → length rules < 64 → 64 < tails_then → refusal T rules p ≡ 6
-  meets_six h f t = past h ∙ six (length rules) tails_then (cond (ltb 1024 strict_then) 7 0) f t
-
-  -- there are too many strict rules
-  pub meets_seven : PastFour T rules p → length rules < 64 → tails_then ≤ 64 → 1024 < strict_then → refusal T rules p ≡ 7
-  meets_seven h f t s = past h ∙ seven (length rules) tails_then strict_then f t s
-
-  -- none of them is met
-  pub meets_none : PastFour T rules p → length rules < 64 → tails_then ≤ 64 → strict_then ≤ 1024 → refusal T rules p ≡ 0
-  meets_none h f t s = past h ∙ none (length rules) tails_then strict_then f t s
+  -- there is room for one more
+  pub meets_size : PastFour T rules p → length rules < 64 → refusal T rules p ≡ size_refusal (book T (rules ++ (p ∷ [])))
+  meets_size h f = past h ∙ room (length rules) then f
 
 -- where no element passes, one of the list does not
 not_passed : {A : Type 0} (q : A → Bool) (a : A) (xs : List A) → some_of q xs ≡ false → Mem a xs → q a ≡ true → ⊥
@@ -89,6 +70,15 @@ past_sound T rules p h S c f t = offered_sound (book T rules) p S (let k = h.hea
     c
     (λ q m e. not_passed (same_rule p) q rules h.new m (same_passes p q e))
     f t
+
+few : (t s : ℕ) → ◌≡◌ {A = ℕ} (cond (ltb 64 t) 6 (cond (ltb 1024 s) 7 0)) 0 → (t ≤ 64) × (s ≤ 1024)
+few t s h = (grind (arith, nat_tests), grind (arith, nat_tests))
+
+-- a book that keeps to the bounds unless it takes too many tails, and that is not refused for its size, is admitted
+pub sized_admitted : (W : Book) → (all_tails W.productions ≤ 64 → Sound W) → size_refusal W ≡ 0 → Admitted W
+sized_admitted W sound e =
+    let f = few (all_tails W.productions) (length (strict_rules (binarised W))) e in
+    record { sound = sound f.0; few_strict = f.1 }
 
 -- a refusal has a number
 pub some_refusal : (f : OfferFault) → 1 ≤ offer_number f

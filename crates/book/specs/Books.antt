@@ -1,15 +1,14 @@
 -- What books hold.
-use Rattle.std.specs.Prelude.{◌≡◌, ℕ, ◌<◌, ◌≤◌, Bool, List, map, length, take, Some, None, Option, slice_index_or}
+use Rattle.std.specs.Prelude.{◌≡◌, ℕ, ◌<◌, ◌≤◌, Bool, List, map, length, Some, None, Option, slice_index_or}
 use Rattle.grammar.specs.Productions.{Production, Book}
 use Rattle.grammar.specs.Binarise.{binarised}
 use Rattle.grammar.specs.Strict.{StrictFormRule, strict_rules}
 use Rattle.grammar.specs.Promises.{TheStrictList, StrictLanguage}
 use Rattle.conversion.specs.Views.{strict_rule_of}
-use Rattle.conversion.specs.Binarised.{rows_book}
 use Rattle.book.specs.declared.alphabet.Alphabet.{Ghosts}
 use Rattle.book.specs.declared.books.OpenBook.{OpenBook}
 use Rattle.book.specs.declared.books.ClosedBook.{ClosedBook}
-use Rattle.book.specs.Rules.{held}
+use Rattle.book.specs.Rules.{held, rules_book}
 use Rattle.book.specs.Fits.{table_fits}
 
 -- the rules that an open book holds
@@ -18,11 +17,11 @@ open_held b = held b.rules
 
 -- the rules that a closed book holds
 abbrev pub closed_held : {A E P : Type 0} {G : Ghosts A E P} → ClosedBook A E P G → List Production
-closed_held b = held b.rules
+closed_held b = held b.converted.rules
 
 -- a closed book as it is written: the rules that it holds, over its patterns
 abbrev pub closed_book : {A E P : Type 0} {G : Ghosts A E P} → ClosedBook A E P G → Book
-closed_book b = rows_book (take b.rules.count b.rules.rows) b.rules.patterns
+closed_book b = rules_book b.converted.rules
 
 -- whether pattern t of a closed book fits the event, by the test of one pattern
 abbrev pub closed_fits : {A E P : Type 0} {G : Ghosts A E P} → (P → E → Bool) → ClosedBook A E P G → E → ℕ → Bool
@@ -30,7 +29,7 @@ closed_fits test b = table_fits test b.table.patterns.now
 
 -- the strict rules that a closed book has
 abbrev pub closed_strict : {A E P : Type 0} {G : Ghosts A E P} → ClosedBook A E P G → List StrictFormRule
-closed_strict b = map strict_rule_of (take b.form.strict.count b.form.strict.rules)
+closed_strict b = map strict_rule_of b.converted.form.strict.rules.items
 
 -- what the strict rules of a book are: those of the definition, in their order; the list of the strict rules, and the only one; and
 -- for any test of events, a grammar in strict Chomsky form whose language is the book's without the empty trace

@@ -15,6 +15,12 @@ same_rule p q = p.head == q.head && same_numbers p.right q.right
 abbrev pub book : ℕ → List Production → Book
 book T rules = record { productions = rules; patterns = T }
 
+-- the number of the refusal of a book for its size: too many tails, too many strict rules; 0 for none
+abbrev pub size_refusal : Book → ℕ
+size_refusal W =
+    cond (nat_lt 64 (all_tails W.productions)) 6
+    (cond (nat_lt 1024 (length (strict_rules (binarised W)))) 7 0)
+
 -- the number of the first refusal that rule p meets, offered to a book of T patterns that holds these rules; 0 for none. The last
 -- two count with the new rule in
 abbrev pub refusal : ℕ → List Production → Production → ℕ
@@ -24,8 +30,7 @@ refusal T rules p =
     (cond (some_of (leb (32 + T)) p.right) 3
     (cond (some_of (same_rule p) rules) 4
     (cond (nat_le 64 (length rules)) 5
-    (cond (nat_lt 64 (all_tails (rules ++ (p ∷ [])))) 6
-    (cond (nat_lt 1024 (length (strict_rules (binarised (book T (rules ++ (p ∷ []))))))) 7 0))))))
+    (size_refusal (book T (rules ++ (p ∷ []))))))))
 
 -- rule p was offered to a book of T patterns that held the rules `was`: it is admitted at the end, and its number is answered,
 -- or it is refused, and the book, all of it, is as before

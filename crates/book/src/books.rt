@@ -1,13 +1,11 @@
 // Open and closed books: two types over one plain struct of rows.
-ghost use Rattle.std.specs.Prelude.{◌≡◌, take};
-ghost use Rattle.conversion.specs.Binarised.{rows_book};
-ghost use Rattle.conversion.specs.Forms.{FormOf};
+ghost use Rattle.std.specs.Prelude.{◌≡◌};
 ghost use Rattle.book.specs.Fits.{pattern_count};
 
 use crate::alphabet::Alphabet;
+use crate::converted::Converted;
 use crate::rules::Rules;
 use crate::table::PatternTable;
-use conversion::form::StrictForm;
 
 // A book that takes rules. Closing it gives a closed book; no chart is cut from an open one.
 #[derive(Drop)]
@@ -21,8 +19,6 @@ pub struct OpenBook<'p, A: Alphabet> {
 #[derive(Drop)]
 pub struct ClosedBook<'p, A: Alphabet> {
     pub(crate) table: PatternTable<'p, A>,
-    pub(crate) rules: Rules,
-    pub(crate) form: StrictForm,
-    ghost over: { rules.patterns ≡ pattern_count table.patterns.now },
-    ghost formed: { ∥ FormOf (rows_book (take rules.count rules.rows) rules.patterns) form ∥₁ },
+    pub(crate) converted: Converted,
+    ghost over: { converted.rules.patterns ≡ pattern_count table.patterns.now },
 }

@@ -3,6 +3,7 @@
 
 pub mod alphabet;
 pub mod books;
+pub mod converted;
 pub mod fault;
 pub mod kinds;
 pub mod loads;

@@ -1,15 +1,19 @@
-// Rules are offered to the plain rows of a book.
-ghost use Rattle.std.specs.Prelude.{◌≡◌, ◌+◌, ◌<◌, ◌≤◌, [], map, length, take, nat_le};
-ghost use Rattle.grammar.specs.Lists.{some_of, same_numbers};
+// Rules are offered to the rules of a book.
+ghost use Rattle.std.specs.Prelude.{◌≡◌, ◌+◌, ◌≤◌, [], map, length, MatchResult, nat_le};
+ghost use Rattle.grammar.specs.Lists.{some_of};
+ghost use Rattle.grammar.specs.Productions.{all_tails, Sound};
 ghost use Rattle.conversion.specs.Rows.{production_of, written};
 ghost use Rattle.conversion.specs.Binarised.{rows_book};
 ghost use Rattle.conversion.specs.Forms.{FormOf};
-ghost use Rattle.book.specs.Rules.{held, cost_of};
-ghost use Rattle.book.specs.Offers.{same_rule, Offered};
+ghost use Rattle.book.specs.Rules.{held, rules_book, cost_of};
+ghost use Rattle.book.specs.Offers.{same_rule, size_refusal, Offered};
+ghost use Rattle.book.specs.Faults.{offer_number};
 
+use crate::converted::Converted;
 use crate::fault::OfferFault;
 use crate::rules::Rules;
-use conversion::form::{StrictForm, convert};
+use arrayvec::ArrayVec;
+use conversion::form::convert;
 use conversion::production::Production;
 use conversion::productions::all_tails;
 
@@ -22,43 +26,41 @@ const RULES: usize = 64;
 // So many tails its rules take at most.
 const TAILS: usize = 64;
 
-// Whether two right sides are the same.
-fn same_items(a: &[u8], b: &[u8]) -> bool
-    ensures { result ≡ same_numbers a.now b.now }
-{
-    a == b
-}
-
 // Whether some item is neither a head nor a pattern.
 fn some_unknown(items: &[u8], patterns: u8) -> bool
     requires { patterns ≤ 32 }
     ensures { result ≡ some_of (nat_le (32 + patterns)) items.now }
 {
-    for item in items {
-        if *item >= 32 + patterns {
-            return true;
-        }
-    }
-    false
+    items.iter().any(|item| *item >= 32 + patterns)
 }
 
 // Whether two rules have the same head and right side.
 fn same(a: &Production, b: &Production) -> bool
     ensures { result ≡ same_rule (production_of a.now) (production_of b.now) }
 {
-    a.head() == b.head() && same_items(a.right(), b.right())
+    a.head() == b.head() && a.right() == b.right()
 }
 
 // Whether some rule has the same head and right side.
 fn some_same(rule: &Production, rules: &[Production]) -> bool
     ensures { result ≡ some_of (same_rule (production_of rule.now)) (map production_of rules.now) }
 {
-    for other in rules {
-        if same(rule, other) {
-            return true;
-        }
+    rules.iter().any(|other| same(rule, other))
+}
+
+// Whether rules that keep to the other bounds have few enough tails and strict rules; if not, which are too many.
+fn fit(rules: &[Production], patterns: u8) -> Result<(), OfferFault>
+    requires few { length rules.now ≤ 64 }
+    requires sound { all_tails (map production_of rules.now) ≤ 64 → Sound (rows_book rules.now patterns) }
+    ensures { MatchResult result (λ _. size_refusal (rows_book rules.now patterns) ≡ 0) (λ f. size_refusal (rows_book rules.now patterns) ≡ offer_number f) }
+{
+    if all_tails(rules) > TAILS {
+        return Err(OfferFault::TooManyTails);
     }
-    false
+    if !convert(rules, patterns).complete() {
+        return Err(OfferFault::TooManyStrictRules);
+    }
+    Ok(())
 }
 
 impl Rules {
@@ -68,10 +70,8 @@ impl Rules {
         ensures none { held result ≡ [] }
         ensures over { result.patterns ≡ patterns }
     {
-        let rule = Production::empty();
         Rules {
-            rows: [rule; 64],
-            count: 0,
+            rows: ArrayVec::new(),
             patterns,
         }
     }
@@ -84,48 +84,38 @@ impl Rules {
         if head >= HEADS {
             return Err(OfferFault::HeadTooLarge);
         }
-        let Some(rule) = Production::new(head, items, cost) else {
-            return Err(OfferFault::TooManyItems);
-        };
+        let rule = Production::new(head, items, cost).ok_or(OfferFault::TooManyItems)?;
         if some_unknown(items, self.patterns) {
             return Err(OfferFault::UnknownItem);
         }
-        let at = self.count;
-        if some_same(&rule, &self.rows[0..at]) {
+        if some_same(&rule, &self.rows) {
             return Err(OfferFault::Repeated);
         }
+        let at = self.rows.len();
         if at >= RULES {
             return Err(OfferFault::BookFull);
         }
-        let mut rows = self.rows;
-        rows[at] = rule;
-        if all_tails(&rows[0..at + 1]) > TAILS {
-            return Err(OfferFault::TooManyTails);
+        self.rows.push(rule);
+        if let Err(fault) = fit(&self.rows, self.patterns) {
+            self.rows.pop();
+            return Err(fault);
         }
-        if !convert(&rows[0..at + 1], self.patterns).complete() {
-            return Err(OfferFault::TooManyStrictRules);
-        }
-        self.rows = rows;
-        self.count = at + 1;
         Ok(at)
     }
 
-    // The strict form of the rules held.
-    pub(crate) fn convert(&self) -> StrictForm
-        ensures { FormOf (rows_book (take self.now.count self.now.rows) self.now.patterns) result }
+    // The rules held with their strict form.
+    pub(crate) fn convert(self) -> Converted
+        ensures rules { result.rules ≡ self }
+        ensures formed { FormOf (rules_book result.rules) result.form }
     {
-        convert(&self.rows[0..self.count], self.patterns)
+        let form = convert(&self.rows, self.patterns);
+        Converted { rules: self, form }
     }
 
     // The cost of a rule, or 0 where there is none of that number.
     pub fn cost(&self, number: u8) -> u16
         ensures { result ≡ cost_of (held self.now) number }
     {
-        let at = number as usize;
-        if at < self.count {
-            self.rows[at].cost()
-        } else {
-            0
-        }
+        self.rows.get(number as usize).map_or(0, |rule| rule.cost())
     }
 }

@@ -14,6 +14,7 @@ ghost use Rattle.book.specs.Strikes.{Struck};
 
 use crate::alphabet::Alphabet;
 use crate::books::{ClosedBook, OpenBook};
+use crate::converted::Converted;
 use crate::fault::{LoadFault, OfferFault, StrikeFault};
 use crate::rules::Rules;
 use crate::table::PatternTable;
@@ -63,77 +64,75 @@ impl<'p, A: Alphabet> OpenBook<'p, A> {
 
     // Ends the open book: a closed book that holds the same rules, with their strict form.
     pub fn close(self) -> ClosedBook<'p, A>
-        ensures held { closed_held result ≡ open_held self.exit }
+        ensures held { closed_held result ≡ open_held self.entry }
         ensures strict { StrictRulesAre A.Event (closed_book result) (closed_strict result) }
-        ensures table { result.table ≡ self.exit.table }
-        ensures runs { Leaves (pattern_count self.exit.table.patterns.now) (open_held self.exit) (closed_held result) }
+        ensures table { result.table ≡ self.entry.table }
+        ensures runs { Leaves (pattern_count self.entry.table.patterns.now) (open_held self.entry) (closed_held result) }
     {
         let OpenBook { table, rules } = self;
-        let form = rules.convert();
-        ClosedBook { table, rules, form }
+        let converted = rules.convert();
+        ClosedBook { table, converted }
     }
 }
 
 impl<'p, A: Alphabet> ClosedBook<'p, A> {
     // The number of symbols, by which a caller sizes a chart's table.
     pub fn symbols(&self) -> usize
-        ensures is { result ≡ self.now.form.binarised.symbols }
+        ensures is { result ≡ self.now.converted.form.binarised.symbols }
         ensures means { result ≡ (binarised (closed_book self.now)).symbols }
         ensures least { 64 ≤ result }
         ensures most { result ≤ 128 }
     {
-        self.form.symbols()
+        self.converted.symbols()
     }
 
     // How many rules are held.
     pub fn rule_count(&self) -> usize
         ensures { result ≡ length (closed_held self.now) }
     {
-        self.rules.count
+        self.converted.rules.rows.len()
     }
 
     // The rule of that number, if there is one.
     pub fn rule(&self, number: usize) -> Option<Production>
         ensures { At production_of (closed_held self.now) number result }
     {
-        if number < self.rule_count() {
-            Some(self.rules.rows[number])
-        } else {
-            None
-        }
+        self.converted.rules.rows.get(number).copied()
     }
 
     // How many strict rules there are.
     pub fn strict_count(&self) -> usize
         ensures { result ≡ length (strict_rules (binarised (closed_book self.now))) }
     {
-        self.form.strict().len()
+        self.converted.strict().len()
     }
 
     // The strict rule in that place of their order, if there is one.
     pub fn strict_rule(&self, place: usize) -> Option<StrictRule>
         ensures { At strict_rule_of (strict_rules (binarised (closed_book self.now))) place result }
     {
-        let list = self.form.strict();
-        if place < list.len() {
-            Some(list[place])
-        } else {
-            None
-        }
+        self.converted.strict().get(place).copied()
+    }
+
+    // The rules held with their strict form, for charts.
+    pub fn converted(&self) -> &Converted
+        ensures { result.now ≡ self.now.converted }
+    {
+        &self.converted
     }
 
     // The strict form, for charts.
     pub fn form(&self) -> &StrictForm
-        ensures { result.now ≡ self.now.form }
+        ensures { result.now ≡ self.now.converted.form }
     {
-        &self.form
+        self.converted.form()
     }
 
     // The rules held, for charts.
     pub fn rules(&self) -> &Rules
-        ensures { result.now ≡ self.now.rules }
+        ensures { result.now ≡ self.now.converted.rules }
     {
-        &self.rules
+        self.converted.rules()
     }
 
     // Whether there is a pattern of that number and it fits the event.

@@ -1,4 +1,4 @@
-// The last rule is struck from the plain rows of a book.
+// The last rule is struck from the rules of a book.
 ghost use Rattle.std.specs.Prelude.{◌≡◌};
 ghost use Rattle.book.specs.Rules.{held};
 ghost use Rattle.book.specs.Strikes.{Struck};
@@ -7,16 +7,12 @@ use crate::fault::StrikeFault;
 use crate::rules::Rules;
 
 impl Rules {
-    // Takes the last rule away: how many remain. Its place is used again by the next rule.
+    // Takes the last rule away: how many remain.
     pub(crate) fn strike(&mut self) -> Result<usize, StrikeFault>
         ensures says { Struck held self.old self.new result }
         ensures over { self.new.patterns ≡ self.old.patterns }
     {
-        let rules = self.count;
-        if rules == 0 {
-            return Err(StrikeFault::NoRule);
-        }
-        self.count = rules - 1;
-        Ok(rules - 1)
+        self.rows.pop().ok_or(StrikeFault::NoRule)?;
+        Ok(self.rows.len())
     }
 }

@@ -9,5 +9,5 @@ use Rattle.book.specs.Books.{closed_book}
 use Rattle.book.proofs.Formed.{form_of}
 use Rattle.chart.specs.Weights.{rules_book}
 
-pub kept_form : {A E P : Type 0} {G : Ghosts A E P} (b : ClosedBook A E P G) (r : Rules) (f : StrictForm) → r ≡ b.rules → f ≡ b.form → FormOf (rules_book r) f
-kept_form b r f e h = subst (FormOf (rules_book r)) (sym h) (subst (λ q. FormOf (rules_book q) b.form) (sym e) (form_of (closed_book b) b.form b.formed))
+pub kept_form : {A E P : Type 0} {G : Ghosts A E P} (b : ClosedBook A E P G) (r : Rules) (f : StrictForm) → r ≡ b.converted.rules → f ≡ b.converted.form → FormOf (rules_book r) f
+kept_form b r f e h = subst (FormOf (rules_book r)) (sym h) (subst (λ q. FormOf (rules_book q) b.converted.form) (sym e) (form_of (closed_book b) b.converted.form b.converted.formed))

@@ -1,6 +1,6 @@
 -- The weights of chosen chains and of strict rules.
-use Rattle.std.proofs.Common.{◌≡◌, ℕ, ◌+◌, ◌<◌, ◌≤◌, true, List, ◌∷◌, map, length, get_or, take, set, sym, refl, ap, ◌∙◌, subst, inl, inr, arith}
-use Rattle.std.proofs.lemmas.List.{length-map, length-take-le, get_or-set_same, get_or-set_other}
+use Rattle.std.proofs.Common.{◌≡◌, ℕ, ◌+◌, ◌<◌, ◌≤◌, true, List, ◌∷◌, map, length, get_or, Some, None, Option, set, sym, refl, ap, ◌∙◌, subst, inl, inr, arith}
+use Rattle.std.proofs.lemmas.List.{length-map, get_or-set_same, get_or-set_other}
 use Rattle.std.proofs.lemmas.Bool.{both_ways, cases_eq, cond-true}
 use Rattle.grammar.specs.Semiring.{Ops, Semiring}
 use Rattle.grammar.specs.Lists.{Mem}
@@ -18,7 +18,7 @@ use Rattle.grammar.proofs.Chains.{chain_self, within_small, chain_within, reache
 use Rattle.grammar.proofs.BinarisedRules.{get_d_mem, binarised_bounded, binarised_size}
 use Rattle.conversion.specs.declared.chain.UnitStep.{UnitStep}
 use Rattle.conversion.specs.declared.chain.Chain.{Chain}
-use Rattle.conversion.specs.declared.chain.Chain.TheVariants.{Absent, Empty, Steps}
+use Rattle.conversion.specs.declared.chain.Chain.TheVariants.{Empty, Steps}
 use Rattle.conversion.specs.declared.chain.Chains.{Chains}
 use Rattle.conversion.specs.declared.strict.StrictRule.{StrictRule}
 use Rattle.conversion.specs.declared.form.StrictForm.{StrictForm}
@@ -39,14 +39,14 @@ abbrev pub OnTheWay : {V : Type 0} → Ops V → Book → ℕ → ℕ → ℕ �
 OnTheWay M W x y z p = Mem y (reached (binarised W) z) × (M.times p (chosen_weight M W z y) ≡ chosen_weight M W x y)
 
 -- the table has the chosen chain to a symbol that is reached
-pub chosen_there : (W : Book) → Sound W → (c : Chains) → ChosenChains (binarised W) c → (x y : ℕ) → Mem y (reached (binarised W) x) → (o : Chain) → o ≡ link c x y → Chosen (binarised W) x y o
+pub chosen_there : (W : Book) → Sound W → (c : Chains) → ChosenChains (binarised W) c → (x y : ℕ) → Mem y (reached (binarised W) x) → (o : Option Chain) → o ≡ link c x y → Chosen (binarised W) x y o
 chosen_there W S c all x y m o e =
     let r = reached_mem (binarised W) (binarised_bounded W S) x y m in
     let l = within_small (binarised W) (binarised_bounded W S) y r.0 (binarised W).symbols x r.1 in
     subst (Chosen (binarised W) x y) (sym e) (all x y (omega (arith, binarised_size W S)) (omega (arith, r.0, binarised_size W S)))
 
 -- the chosen chain from z to y is its first step and the chosen chain from where that ends
-module _ (W : Book) (S : Sound W) (y z k : ℕ) (s : UnitStep) (h : Chosen (binarised W) z y (Steps k s)) (m : Mem y (reached (binarised W) z)) where
+module _ (W : Book) (S : Sound W) (y z k : ℕ) (s : UnitStep) (h : Chosen (binarised W) z y (Some (Steps k s))) (m : Mem y (reached (binarised W) z)) where
   chain_split : chosen_chain (binarised W) z y ≡ step_of s ∷ chosen_chain (binarised W) s.to y
   chain_split = shortest_chain (binarised W) (binarised_bounded W S) y (reached_mem (binarised W) (binarised_bounded W S) z y m).0 z k s h.1
 
@@ -65,11 +65,11 @@ module _ (W : Book) (S : Sound W) (y z k : ℕ) (s : UnitStep) (h : Chosen (bina
 
 module _ {V : Type 0} (M : Ops V) (L : Semiring M) (W : Book) (S : Sound W) where
   -- where the way ends, its weight is that of the chain
-  pub way_end : (x y z : ℕ) (p : V) (o : Chain) → ((k : ℕ) (s : UnitStep) → o ≡ Steps k s → ⊥) → Chosen (binarised W) z y o → OnTheWay M W x y z p → p ≡ chosen_weight M W x y
-  way_end x y z p Absent no_step h w = absurd (both_ways _ h (reached_mem (binarised W) (binarised_bounded W S) z y w.0).1)
-  way_end x y z p Empty no_step h w =
+  pub way_end : (x y z : ℕ) (p : V) (o : Option Chain) → ((k : ℕ) (s : UnitStep) → o ≡ Some (Steps k s) → ⊥) → Chosen (binarised W) z y o → OnTheWay M W x y z p → p ≡ chosen_weight M W x y
+  way_end x y z p None no_step h w = absurd (both_ways _ h (reached_mem (binarised W) (binarised_bounded W S) z y w.0).1)
+  way_end x y z p (Some Empty) no_step h w =
       sym (times_one_right M L p) ∙ ap (λ c. M.times p (chain_weight (binarised W) M (binarised_weight W M) c)) (sym (chain_self (binarised W) z) ∙ ap (chosen_chain (binarised W) z) h) ∙ w.1
-  way_end x y z p (Steps k s) no_step h w = absurd (no_step k s refl)
+  way_end x y z p (Some (Steps k s)) no_step h w = absurd (no_step k s refl)
 
   module _ (f : ℕ → V) (F : NullableWeights M W f) where
     blank_of : (z : ℕ) → nullable (binarised W) z ≡ true → f z ≡ blank_weight M W z
@@ -85,7 +85,7 @@ module _ {V : Type 0} (M : Ops V) (L : Semiring M) (W : Book) (S : Sound W) wher
     dropped_same x n (the_left z) y h = blank_of z h.1
 
     -- one step more on the way
-    pub way_more : (y z k : ℕ) (s : UnitStep) → Chosen (binarised W) z y (Steps k s)
+    pub way_more : (y z k : ℕ) (s : UnitStep) → Chosen (binarised W) z y (Some (Steps k s))
         → (v : V) → v ≡ M.times (binarised_weight W M s.from s.number) (dropped_weight M f (drop_of s.dropped))
         → (x : ℕ) (p q : V) → q ≡ M.times p v → OnTheWay M W x y z p → OnTheWay M W x y s.to q
     way_more y z k s h v weighs x p q so (m, w) =
@@ -103,12 +103,12 @@ abbrev pub WeightsTo : {V : Type 0} → Ops V → Book → ℕ → List V → Ty
 WeightsTo M W n ws = (j : ℕ) (r : StrictFormRule) → j < n → get_or ws j M.zero ≡ strict_weight_of W M (get_or (strict_rules (binarised W)) j r)
 
 -- the strict rules of the form are those of the book
-pub strict_are : (W : Book) (f : StrictForm) → Admitted W → FormOf W f → (l : List StrictRule) → l ≡ take f.strict.count f.strict.rules → map strict_rule_of l ≡ strict_rules (binarised W)
+pub strict_are : (W : Book) (f : StrictForm) → Admitted W → FormOf W f → (l : List StrictRule) → l ≡ f.strict.rules.items → map strict_rule_of l ≡ strict_rules (binarised W)
 strict_are W f a form l e = ap (map strict_rule_of) e ∙ listed W f a form
 
 -- there is room for them
-pub strict_few : (f : StrictForm) (l : List StrictRule) → l ≡ take f.strict.count f.strict.rules → length l ≤ 1024
-strict_few f l e = let held = length-take-le f.strict.count f.strict.rules (omega (arith, f.strict.few, f.strict.sized)) in omega (arith, ap length e, f.strict.few)
+pub strict_few : (f : StrictForm) (l : List StrictRule) → l ≡ f.strict.rules.items → length l ≤ 1024
+strict_few f l e = omega (arith, ap length e, f.strict.few)
 
 module _ (W : Book) (l : List StrictRule) (are : map strict_rule_of l ≡ strict_rules (binarised W)) where
   pub strict_in : (i : ℕ) (d : StrictRule) → i < length l → Mem (strict_rule_of (get_or l i d)) (strict_rules (binarised W))

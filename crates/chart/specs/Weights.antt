@@ -1,5 +1,5 @@
 -- The weights that a chart works from: of binarised rules, of the chosen derivations of nothing, of strict rules.
-use Rattle.std.specs.Prelude.{◌≡◌, ℕ, ◌<◌, cond, List, length, take, slice_index_or}
+use Rattle.std.specs.Prelude.{◌≡◌, ℕ, ◌<◌, cond, List, length, slice_index_or}
 use Rattle.grammar.specs.Semiring.{Ops}
 use Rattle.grammar.specs.Productions.{Book}
 use Rattle.grammar.specs.Binarised.{Right, empty, unit, binary, terminal}
@@ -9,12 +9,7 @@ use Rattle.grammar.specs.Strict.{StrictFormRule, strict_rules}
 use Rattle.grammar.specs.Cells.{tree_weight}
 use Rattle.grammar.specs.Weights.{binarised_weight, strict_weight_of}
 use Rattle.grammar.specs.Binarise.{binarised}
-use Rattle.conversion.specs.Binarised.{rows_book}
-use Rattle.book.specs.declared.rules.Rules.{Rules}
-
--- the book of the rules held
-abbrev pub rules_book : Rules → Book
-rules_book b = rows_book (take b.count b.rows) b.patterns
+pub use Rattle.book.specs.Rules.{rules_book}
 
 -- the weight of the chosen tree without events of the nullable symbol x
 abbrev pub blank_weight : {V : Type 0} → Ops V → Book → ℕ → V

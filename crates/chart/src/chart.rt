@@ -91,7 +91,7 @@ impl<'b, 'p, 't, A: Alphabet, W: Weighing> Chart<'b, 'p, 't, A, W> {
 
     // One event more: how many are held then, or the refusal.
     pub fn feed(&mut self, event: A::Event) -> Result<usize, FeedFault>
-        ensures says { Fed W.Weighing.ops.zero self.old.book.now.form.binarised.symbols self.old.weights.now self.old.held.events self.new.weights.now self.new.held.events result }
+        ensures says { Fed W.Weighing.ops.zero self.old.book.now.converted.form.binarised.symbols self.old.weights.now self.old.held.events self.new.weights.now self.new.held.events result }
         ensures chart { ForTests A.Alphabet.fits (λ test. FedEvent W.Weighing.ops test event self.old self.new result) }
         ensures book { self.new.book ≡ self.old.book }
         ensures same { self.new.weights.ghost_name ≡ self.old.weights.ghost_name }
@@ -109,7 +109,7 @@ impl<'b, 'p, 't, A: Alphabet, W: Weighing> Chart<'b, 'p, 't, A, W> {
 
     // Head 0's weight over all events held.
     pub fn total(&self) -> W::Value
-        ensures stands { 0 < self.now.held.events → result ≡ slice_index_or self.now.weights.now (column_place self.now.book.now.form.binarised.symbols self.now.held.events) W.Weighing.ops.zero }
+        ensures stands { 0 < self.now.held.events → result ≡ slice_index_or self.now.weights.now (column_place self.now.book.now.converted.form.binarised.symbols self.now.held.events) W.Weighing.ops.zero }
         ensures means { ForTests A.Alphabet.fits (λ test. (es : List A.Event) → Holds W.Weighing.ops test self.now es → TotalIs (chart_book self.now) W.Weighing.ops (chart_fits test self.now) es result) }
     {
         let n = self.held();

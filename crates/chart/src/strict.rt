@@ -19,13 +19,13 @@ use weighing::bank::Bank;
 use weighing::weighing::Weighing;
 
 // The weight of what a unit step drops.
-fn dropped_weight<W: Weighing, B: Bank<Value = W::Value>>(bank: &B, dropped: Dropped) -> W::Value
+fn dropped_weight<W: Weighing, B: Bank<Value = W::Value>>(bank: &B, dropped: Option<Dropped>) -> W::Value
     ensures { result ≡ dropped_weight W.Weighing.ops (B.Bank.item bank.now) (drop_of dropped) }
 {
     match dropped {
-        Dropped::Nothing => W::one(),
-        Dropped::Right(z) => bank.get(z as usize),
-        Dropped::Left(y) => bank.get(y as usize),
+        None => W::one(),
+        Some(Dropped::Right(z)) => bank.get(z as usize),
+        Some(Dropped::Left(y)) => bank.get(y as usize),
     }
 }
 
@@ -58,7 +58,7 @@ fn chain_weight<W: Weighing, B: Bank<Value = W::Value>>(
 {
     let mut product = W::one();
     let mut at = from;
-    while let Chain::Steps(_, step) = form.chain(at, to) {
+    while let Some(Chain::Steps(_, step)) = form.chain(at, to) {
         product = W::times(product, step_weight::<W, B>(bank, rules, step));
         at = step.to;
     }

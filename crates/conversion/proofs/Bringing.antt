@@ -192,13 +192,12 @@ nullable_holds B n h x = at (get_or n.brought x None) (h x)
     at (Some b) p = sym p.0
 
 -- before the first round nothing is held
-pub rounds_start : (B : Binarised) (n : Nullable) → n.brought ≡ replicate 128 None → AfterRounds B 0 n
+pub rounds_start : (B : Binarised) (x : ℕ) → WithinRounds B 0 x (get_or (replicate 128 None) x None)
 unfolding nullable_after
-rounds_start B n e x = subst (λ t. WithinRounds B 0 x (get_or t x None)) (sym e)
-    (subst (λ o. WithinRounds B 0 x o) (sym (elim (cases_lt x 128) [
-      | inl l ↦ get_or-replicate 128 x None None l
-      | inr g ↦ get_or_past (replicate 128 None) x None (omega (arith, length-replicate {A = Option Brought} 128 None))
-    ])) refl)
+rounds_start B x = subst (λ o. WithinRounds B 0 x o) (sym (elim (cases_lt x 128) [
+  | inl l ↦ get_or-replicate 128 x None None l
+  | inr g ↦ get_or_past (replicate 128 None) x None (omega (arith, length-replicate {A = Option Brought} 128 None))
+])) refl
 
 -- the turns of a round: the first rules of the list are done
 module _ (rules : List BinarisedRule) (S : ℕ) (l : S ≤ 128) (bounded : Bounded (binarised_of rules S)) (k i : ℕ) (d : BinarisedRule) (b : i < length rules)

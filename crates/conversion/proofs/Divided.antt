@@ -1,29 +1,30 @@
 -- The steps by which binarised rules come to be those of a book.
-use Rattle.std.proofs.Common.{◌≡◌, ℕ, ◌+◌, ◌<◌, ◌≤◌, List, [], ◌∷◌, ◌++◌, map, length, get_or, take, drop, sym, ap, ◌∙◌, subst, ap₂, add-one, arith}
+use Rattle.std.proofs.Common.{◌≡◌, ℕ, ◌+◌, ◌<◌, List, [], ◌∷◌, ◌++◌, map, length, get_or, drop, refl, sym, ap, ◌∙◌, subst, ap₂, add-one, arith}
 use Rattle.std.proofs.lemmas.List.{drop_more, drop_all, append_assoc, append-nil, length-append, length-map, get_or-map, map_push}
+use Rattle.arrayvec.specs.ArrayVec.{array_vec_len}
 use Rattle.grammar.specs.Lists.{each, below}
-use Rattle.grammar.proofs.Lists.{length_count_up}
+use Rattle.grammar.proofs.Lists.{length_count_up, mem_map}
 use Rattle.grammar.specs.Binarised.{Rule, rule, binary, Binarised}
-use Rattle.grammar.specs.Productions.{Book, production, right_of, tails, tails_before, first_tail}
+use Rattle.grammar.specs.Productions.{Book, Sound, production, right_of, tails, tails_before, first_tail}
 use Rattle.grammar.specs.Binarise.{binarise_right, binarise_production, terminal_rule, binarised_rules, binarised}
 use Rattle.grammar.proofs.Offers.{binarised_next, upto_length}
 use Rattle.grammar.proofs.Tails.{tails_next, tails_whole, tails_within}
-use Rattle.grammar.specs.Productions.{all_tails}
 use Rattle.conversion.specs.declared.production.Production.{Production}
 use Rattle.conversion.specs.declared.right.Right.TheVariants.{Binary, Terminal}
+use Rattle.conversion.specs.declared.right.BinarisedRule.{BinarisedRule}
 use Rattle.conversion.specs.declared.binarised.BinarisedRules.{BinarisedRules}
 use Rattle.conversion.specs.Rows.{production_of}
-use Rattle.conversion.specs.Views.{rule_of, binarised_of}
-use Rattle.conversion.specs.Binarised.{rows_book, rules_held, Added, Pushed, Tailed, Room, Divided}
+use Rattle.conversion.specs.Views.{rule_of}
+use Rattle.conversion.specs.Binarised.{rows_book, rules_held, grammar_of, Added, Pushed, Tailed, Room, Divided}
+use Rattle.conversion.proofs.Firsts.{get_d_mem}
 use Rattle.conversion.proofs.Each.{below_more}
-use Rattle.conversion.proofs.Pushes.{held_length}
 
 -- the count is the number of rules
 
-pub rules_count : (b : BinarisedRules) → length (rules_held b) ≡ b.count
-rules_count b = held_length rule_of b.rules b.count (omega (arith, b.sized, b.few))
+pub rules_count : (b : BinarisedRules) → length (rules_held b) ≡ array_vec_len b.rules
+rules_count b = length-map b.rules.items rule_of
 
-pub added_count : (was is : BinarisedRules) (more : List Rule) (k : ℕ) → Added was is more k → is.count ≡ was.count + length more
+pub added_count : (was is : BinarisedRules) (more : List Rule) (k : ℕ) → Added was is more k → array_vec_len is.rules ≡ array_vec_len was.rules + length more
 added_count was is more k a = omega (arith, rules_count was, rules_count is, ap length a.0, length-append (rules_held was) more)
 
 -- the pairs of a right side, from place k on
@@ -82,18 +83,24 @@ production_at rows T n p h e = production_in rows T n p h ∙ ap production_of (
 abbrev pub Upto : Book → ℕ → BinarisedRules → Type 0
 Upto W n b = (rules_held b ≡ each (binarise_production W) (below n)) × (b.symbols ≡ first_tail W n)
 
-pub upto_none : (W : Book) (b : BinarisedRules) → rules_held b ≡ [] → b.symbols ≡ 64 → Upto W 0 b
+pub upto_none : (W : Book) (rules : List BinarisedRule) → rules ≡ [] → (map rule_of rules ≡ each (binarise_production W) (below 0)) × (64 ≡ first_tail W 0)
 unfolding tails_before
-upto_none W b e s = (e, s)
+upto_none W rules e = (ap (map rule_of) e, refl)
 
-pub upto_room : (rows : List Production) (T n : ℕ) (b : BinarisedRules) (p : Production) → length rows ≤ 64 → all_tails (map production_of rows) ≤ 64
+pub upto_room : (rows : List Production) (T n : ℕ) (b : BinarisedRules) (p : Production) → Sound (rows_book rows T)
     → n < length rows → p ≡ get_or rows n p → Upto (rows_book rows T) n b → Room b (production_of p).right
-upto_room rows T n b p few most h e u =
+upto_room rows T n b p sound h e u =
     let W = rows_book rows T in
     let right : tails (right_of W n) ≡ tails (production_of p).right = ap (λ q. tails q.right) (production_at rows T n p h e) in
-    let count : b.count ≡ n + tails_before W n = sym (rules_count b) ∙ ap length u.0 ∙ upto_length W n in
+    let count : array_vec_len b.rules ≡ n + tails_before W n = sym (rules_count b) ∙ ap length u.0 ∙ upto_length W n in
     let sum = tails_within W n (omega (arith, length-map rows production_of)) in
-    (omega (arith, u.1), omega (arith, u.1))
+    (omega (arith, u.1, sound.few_rules, sound.few_tails, length-map rows production_of), omega (arith, u.1, sound.few_tails))
+
+-- its head is small
+pub head_small : (rows : List Production) (T n : ℕ) (p : Production) → Sound (rows_book rows T) → n < length rows → p ≡ get_or rows n p → (production_of p).head < 64
+head_small rows T n p sound h e =
+    let l = sound.heads (production_of (get_or rows n p)) (mem_map production_of (get_or rows n p) rows (get_d_mem rows n p h)) in
+    omega (arith, l, ap (λ (q : Production). q.head) e)
 
 pub upto_more : (rows : List Production) (T n : ℕ) (was is : BinarisedRules) (p : Production) → n < length rows → p ≡ get_or rows n p
     → Upto (rows_book rows T) n was → Divided was is (production_of p).head n (production_of p).right → Upto (rows_book rows T) (n + 1) is
@@ -120,13 +127,13 @@ beyond_none rows T n b e u =
     let all : n ≡ length W.productions = e ∙ sym (length-map rows production_of) in
     (u.0 ∙ ap (λ m. each (binarise_production W) (below m)) all ∙ sym (append-nil (each (binarise_production W) (below (length W.productions)))), u.1 ∙ ap (first_tail W) all)
 
-pub beyond_count : (rows : List Production) (T t : ℕ) (b : BinarisedRules) → length rows ≤ 64 → all_tails (map production_of rows) ≤ 64 → t < 32
-    → Beyond (rows_book rows T) t b → b.count < 160
-beyond_count rows T t b few most h e =
+pub beyond_count : (rows : List Production) (T t : ℕ) (b : BinarisedRules) → Sound (rows_book rows T) → t < T
+    → Beyond (rows_book rows T) t b → array_vec_len b.rules < 160
+beyond_count rows T t b sound h e =
     let W = rows_book rows T in
     let n = length W.productions in
     let all = each (binarise_production W) (below n) in
-    omega (arith, rules_count b, ap length e.0, length-append all (map terminal_rule (below t)), upto_length W n, tails_whole W, length-map rows production_of, length-map (below t) terminal_rule, length_count_up 0 t)
+    omega (arith, rules_count b, ap length e.0, length-append all (map terminal_rule (below t)), upto_length W n, tails_whole W, length-map rows production_of, length-map (below t) terminal_rule, length_count_up 0 t, sound.few_patterns, sound.few_rules, sound.few_tails)
 
 pub beyond_more : (W : Book) (t : ℕ) (was is : BinarisedRules) → Beyond W t was → Pushed was is (32 + t) 255 (Terminal t) → Beyond W (t + 1) is
 beyond_more W t was is e p =
@@ -142,6 +149,6 @@ beyond_all W t b e h =
     (subst (λ m. rules_held b ≡ each (binarise_production W) (below (length W.productions)) ++ map terminal_rule (below m)) e h.0, h.1 ∙ ap (λ m. 64 + m) (tails_whole W))
 
 -- the rules and their number of symbols are the split grammar
-pub split_is : (W : Book) (b : BinarisedRules) → rules_held b ≡ binarised_rules W → b.symbols ≡ (binarised W).symbols → binarised_of (take b.count b.rules) b.symbols ≡ binarised W
+pub split_is : (W : Book) (b : BinarisedRules) → rules_held b ≡ binarised_rules W → b.symbols ≡ (binarised W).symbols → grammar_of b ≡ binarised W
 unfolding binarised
 split_is W b r s = ap₂ {C = Binarised} (λ rs n. record { rules = rs; symbols = n }) r s

@@ -1,7 +1,7 @@
--- The steps by which an array comes to hold the strict rules of a grammar.
-use Rattle.std.proofs.Common.{◌≡◌, ℕ, zero, suc, ◌+◌, ◌<◌, ◌≤◌, Bool, true, false, cond, ◌||◌, eqb, leb, List, [], ◌∷◌, ◌++◌, map, length, get_or, take, set, sym, refl, ap, ◌∙◌, subst, ap₂, inl, inr, arith}
-use Rattle.std.proofs.lemmas.List.{append_assoc, append-nil, map-append, length-append, length-take, take_all, take-append-le, take_more}
-use Rattle.std.proofs.lemmas.Bool.{le-leb, cases_lt, eq-eqb, ne_eqb}
+-- The steps by which the strict rules of a grammar are found.
+use Rattle.std.proofs.Common.{◌≡◌, ℕ, zero, suc, ◌+◌, ◌<◌, ◌≤◌, Bool, true, false, cond, ◌||◌, eqb, leb, List, [], ◌∷◌, ◌++◌, map, length, get_or, take, sym, refl, ap, ◌∙◌, subst, ap₂, inl, inr, arith}
+use Rattle.std.proofs.lemmas.List.{append_assoc, append-nil, map-append, length-append, length-map, length-take, map_push, take_all, take-append-le, take_more}
+use Rattle.std.proofs.lemmas.Bool.{le-leb, lt-leb, cases_lt, eq-eqb, ne_eqb}
 use Rattle.grammar.specs.Lists.{Mem, some_of, those, each, below}
 use Rattle.grammar.specs.Binarised.{Rule, Binarised, OwnRule, rules_in, rules_of, Bounded}
 use Rattle.grammar.specs.Nullable.{nullable}
@@ -12,29 +12,28 @@ use Rattle.conversion.specs.declared.chain.Chains.{Chains}
 use Rattle.conversion.specs.declared.strict.StrictRules.{StrictRules}
 use Rattle.conversion.specs.Views.{right_side_of, rule_of, binarised_of}
 use Rattle.conversion.specs.Found.{linked, Reached, proper_right, Holds, Appends, by_end, by_ends}
-use Rattle.conversion.proofs.Pushes.{held_push, held_length}
 use Rattle.conversion.proofs.Firsts.{own_append}
 use Rattle.conversion.proofs.Each.{those_append, each_those, each_more, each_same, each_shorter}
 
 -- one more, or no room for it
 
-pub found_room : {A B : Type 0} (f : A → B) (xs : List A) (n : ℕ) (y : A) (b : Bool) (l : List B) → length xs ≡ 1024 → n < 1024
-    → (map f (take n xs) ≡ take 1024 l) × (b ≡ leb (length l) 1024)
-    → (map f (take (n + 1) (set xs n y)) ≡ take 1024 (l ++ (f y ∷ []))) × (b ≡ leb (length (l ++ (f y ∷ []))) 1024)
-found_room f xs n y b l s h e =
-    let many : length l ≡ n = omega (arith, held_length f xs n (omega arith), ap length e.0, length-take 1024 l) in
+pub found_room : {A B : Type 0} (f : A → B) (xs : List A) (y : A) (b : Bool) (l : List B) → length xs < 1024
+    → (map f xs ≡ take 1024 l) × (b ≡ leb (length l) 1024)
+    → (map f (xs ++ (y ∷ [])) ≡ take 1024 (l ++ (f y ∷ []))) × (b ≡ leb (length (l ++ (f y ∷ []))) 1024)
+found_room f xs y b l h e =
+    let many : length l ≡ length xs = omega (arith, length-map xs f, ap length e.0, length-take 1024 l) in
     let more = length-append l (f y ∷ []) in (
-      held_push f xs n y (omega arith) ∙ ap (λ k. k ++ (f y ∷ [])) (e.0 ∙ take_all 1024 l (omega arith)) ∙ sym (take_all 1024 (l ++ (f y ∷ [])) (omega arith)),
+      map_push f xs y ∙ ap (λ k. k ++ (f y ∷ [])) (e.0 ∙ take_all 1024 l (omega arith)) ∙ sym (take_all 1024 (l ++ (f y ∷ [])) (omega arith)),
       e.1 ∙ le-leb (length l) 1024 (omega arith) ∙ sym (le-leb (length (l ++ (f y ∷ []))) 1024 (omega arith)),
     )
 
-pub found_full : {A B : Type 0} (f : A → B) (xs : List A) (n : ℕ) (y : A) (b : Bool) (l : List B) → length xs ≡ 1024 → n ≤ 1024 → 1024 ≤ n
-    → (map f (take n xs) ≡ take 1024 l) × (b ≡ leb (length l) 1024)
-    → (map f (take n xs) ≡ take 1024 (l ++ (f y ∷ []))) × (1024 < length (l ++ (f y ∷ [])))
-found_full f xs n y b l s h g e =
-    let many : 1024 ≤ length l = omega (arith, held_length f xs n (omega arith), ap length e.0, length-take 1024 l) in
+pub found_full : {A B : Type 0} (f : A → B) (xs : List A) (y : A) (b : Bool) (l : List B) → length xs ≡ 1024
+    → (map f xs ≡ take 1024 l) × (b ≡ leb (length l) 1024)
+    → (map f xs ≡ take 1024 (l ++ (f y ∷ []))) × (false ≡ leb (length (l ++ (f y ∷ []))) 1024)
+found_full f xs y b l h e =
+    let many : 1024 ≤ length l = omega (arith, length-map xs f, ap length e.0, length-take 1024 l) in
     let more = length-append l (f y ∷ []) in
-    (e.0 ∙ sym (take-append-le 1024 l (f y ∷ []) many), omega arith)
+    (e.0 ∙ sym (take-append-le 1024 l (f y ∷ []) many), sym (lt-leb (length (l ++ (f y ∷ []))) 1024 (omega arith)))
 
 -- one after the other
 
@@ -119,6 +118,9 @@ by_symbols rules c m n = each (λ x. by_ends rules c x m) (below n)
 pub by_symbols_none : (rules : List BinarisedRule) (c : Chains) (m : ℕ) → by_symbols rules c m 0 ≡ []
 unfolding by_symbols
 by_symbols_none rules c m = refl
+
+pub found_none : {A B : Type 0} (f : A → B) (xs : List A) (l : List B) → xs ≡ [] → l ≡ [] → (map f xs ≡ take 1024 l) × (true ≡ leb (length l) 1024)
+found_none f xs l e k = (ap (map f) e ∙ ap (take 1024) (sym k), ap (λ m. leb (length m) 1024) (sym k))
 
 pub by_symbols_more : (rules : List BinarisedRule) (c : Chains) (m n : ℕ) → by_symbols rules c m (n + 1) ≡ by_symbols rules c m n ++ by_ends rules c n m
 unfolding by_symbols

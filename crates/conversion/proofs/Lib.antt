@@ -1,4 +1,5 @@
 pub mod Arrays
+pub mod Bounds
 pub mod Bringing
 pub mod Divided
 pub mod Each

@@ -1,5 +1,5 @@
 -- A round of chains, step by step, and when the rounds may stop.
-use Rattle.std.proofs.Common.{◌≡◌, ℕ, zero, suc, ◌+◌, ◌<◌, ◌≤◌, Bool, true, false, cond, not, ◌&&◌, ◌||◌, eqb, ◌⊎◌, List, [], ◌∷◌, ◌++◌, map, length, get_or, take, sym, refl, ap, ◌∙◌, subst, inl, inr, arith}
+use Rattle.std.proofs.Common.{◌≡◌, ℕ, zero, suc, ◌+◌, ◌<◌, ◌≤◌, Bool, true, false, cond, not, ◌&&◌, ◌||◌, eqb, ◌⊎◌, List, [], ◌∷◌, ◌++◌, map, length, get_or, take, Some, None, Option, sym, refl, ap, ◌∙◌, subst, inl, inr, arith}
 use mathlib.Core.Path.{fun_ext}
 use Rattle.std.proofs.lemmas.List.{append-nil, map_more}
 use Rattle.std.proofs.lemmas.Bool.{true≢false, both_ways, cases_Bool, cases_eq, cases_lt, lt-ltb, le-ltb, eqb-true, or_left, or_right, or_from}
@@ -13,7 +13,7 @@ use Rattle.conversion.specs.Views.{step_of}
 use Rattle.conversion.specs.Linked.{all_steps, EndsBelow, link, leads, shorter, extended, Shortest, WithinSteps, AfterSteps, Chosen, ChosenChains}
 use Rattle.conversion.specs.declared.chain.UnitStep.{UnitStep}
 use Rattle.conversion.specs.declared.chain.Chain.{Chain}
-use Rattle.conversion.specs.declared.chain.Chain.TheVariants.{Absent, Empty, Steps}
+use Rattle.conversion.specs.declared.chain.Chain.TheVariants.{Empty, Steps}
 use Rattle.conversion.specs.declared.chain.Chains.{Chains}
 use Rattle.conversion.proofs.Firsts.{some_append, first_append, get_d_mem}
 use Rattle.conversion.proofs.Each.{those_append}
@@ -24,10 +24,10 @@ abbrev pub near : Binarised → ℕ → ℕ → ChainStep → Bool
 near B y j s = within B y j s.to
 
 -- what is said of x and y within a round after j, after some of the steps from x
-abbrev pub Between : Binarised → ℕ → ℕ → ℕ → List ChainStep → Chain → Type 0
-Between B j x y os Absent = (within B y j x ≡ false) × (some_of (near B y j) os ≡ false)
-Between B j x y os Empty = x ≡ y
-Between B j x y os (Steps k s) = ((k ≤ j) × Shortest B x y k s)
+abbrev pub Between : Binarised → ℕ → ℕ → ℕ → List ChainStep → Option Chain → Type 0
+Between B j x y os None = (within B y j x ≡ false) × (some_of (near B y j) os ≡ false)
+Between B j x y os (Some Empty) = x ≡ y
+Between B j x y os (Some (Steps k s)) = ((k ≤ j) × Shortest B x y k s)
     ⊎ ((k ≡ suc j) × (within B y j x ≡ false) × (some_of (near B y j) os ≡ true) × (step_of s ≡ first_of (near B y j) (unit_step x zero nothing x) os))
 
 -- the table within a round after j, after some steps
@@ -39,28 +39,28 @@ within_on B y k zero x h t = let e : k ≡ 0 = omega arith in subst (λ i. withi
 within_on B y k (suc m) x h t = elim (cases_eq k (suc m))
     [ inl e ↦ subst (λ i. within B y i x ≡ true) e t | inr n ↦ within_grows B y m x (within_on B y k m x (omega arith) t) ]
 
-between_start : (B : Binarised) (j x y : ℕ) (o : Chain) → WithinSteps B j x y o → Between B j x y [] o
-between_start B j x y Absent h = (h, refl)
-between_start B j x y Empty h = h
-between_start B j x y (Steps k s) h = inl h
+between_start : (B : Binarised) (j x y : ℕ) (o : Option Chain) → WithinSteps B j x y o → Between B j x y [] o
+between_start B j x y None h = (h, refl)
+between_start B j x y (Some Empty) h = h
+between_start B j x y (Some (Steps k s)) h = inl h
 
-between_end : (B : Binarised) (j x y : ℕ) (o : Chain) → Between B j x y (steps B x) o → WithinSteps B (suc j) x y o
+between_end : (B : Binarised) (j x y : ℕ) (o : Option Chain) → Between B j x y (steps B x) o → WithinSteps B (suc j) x y o
 unfolding within
-between_end B j x y Absent h = or_from (within B y j x) _ h.0 h.1
-between_end B j x y Empty h = h
-between_end B j x y (Steps k s) (inl h) = (omega (arith, h.0), h.1)
-between_end B j x y (Steps k s) (inr h) = (omega (arith, h.0), (j, h.0, h.1, or_right (within B y j x) _ h.2, h.3))
+between_end B j x y None h = or_from (within B y j x) _ h.0 h.1
+between_end B j x y (Some Empty) h = h
+between_end B j x y (Some (Steps k s)) (inl h) = (omega (arith, h.0), h.1)
+between_end B j x y (Some (Steps k s)) (inr h) = (omega (arith, h.0), (j, h.0, h.1, or_right (within B y j x) _ h.2, h.3))
 
 -- in a round after j, a chain of at most j steps is one that is shorter than the round's
-between_shorter : (B : Binarised) (j x y : ℕ) (os : List ChainStep) (o : Chain) → Between B j x y os o → shorter (suc j) o ≡ within B y j x
-between_shorter B j x y os Absent h = sym h.0
-between_shorter B j x y os Empty h = lt-ltb 0 (suc j) (omega arith) ∙ sym (subst (λ z. within B z j x ≡ true) h (within_self B x j))
-between_shorter B j x y os (Steps k s) (inl h) =
+between_shorter : (B : Binarised) (j x y : ℕ) (os : List ChainStep) (o : Option Chain) → Between B j x y os o → shorter (suc j) o ≡ within B y j x
+between_shorter B j x y os None h = sym h.0
+between_shorter B j x y os (Some Empty) h = lt-ltb 0 (suc j) (omega arith) ∙ sym (subst (λ z. within B z j x ≡ true) h (within_self B x j))
+between_shorter B j x y os (Some (Steps k s)) (inl h) =
     let i = h.1.0 in
     lt-ltb k (suc j) (omega (arith, h.0)) ∙ sym (within_on B y (suc i) j x (omega (arith, h.0, h.1.1)) h.1.3)
-between_shorter B j x y os (Steps k s) (inr h) = le-ltb k (suc j) (omega (arith, h.0)) ∙ sym h.1
+between_shorter B j x y os (Some (Steps k s)) (inr h) = le-ltb k (suc j) (omega (arith, h.0)) ∙ sym h.1
 
-between_kept : (B : Binarised) (j x y : ℕ) (os es : List ChainStep) (k : ℕ) (s : UnitStep) → Between B j x y os (Steps k s) → Between B j x y (os ++ es) (Steps k s)
+between_kept : (B : Binarised) (j x y : ℕ) (os es : List ChainStep) (k : ℕ) (s : UnitStep) → Between B j x y os (Some (Steps k s)) → Between B j x y (os ++ es) (Some (Steps k s))
 between_kept B j x y os es k s (inl h) = inl h
 between_kept B j x y os es k s (inr h) =
     let p : ChainStep → Bool = near B y j in
@@ -73,14 +73,14 @@ between_kept B j x y os es k s (inr h) =
     )
 
 -- one step more from x
-between_more : (B : Binarised) (j x y : ℕ) (os : List ChainStep) (s : UnitStep) (e q : Bool) (o : Chain) → q ≡ near B y j (step_of s) → Between B j x y os o
-    → Between B j x y (os ++ cond e (step_of s ∷ []) []) (cond (e && (not (leads o) && q)) (Steps (suc j) s) o)
+between_more : (B : Binarised) (j x y : ℕ) (os : List ChainStep) (s : UnitStep) (e q : Bool) (o : Option Chain) → q ≡ near B y j (step_of s) → Between B j x y os o
+    → Between B j x y (os ++ cond e (step_of s ∷ []) []) (cond (e && (not (leads o) && q)) (Some (Steps (suc j) s)) o)
 between_more B j x y os s false q o n h = subst (λ l. Between B j x y l o) (sym (append-nil os)) h
-between_more B j x y os s true q Empty n h = h
-between_more B j x y os s true q (Steps k t) n h = between_kept B j x y os (step_of s ∷ []) k t h
-between_more B j x y os s true false Absent n h =
+between_more B j x y os s true q (Some Empty) n h = h
+between_more B j x y os s true q (Some (Steps k t)) n h = between_kept B j x y os (step_of s ∷ []) k t h
+between_more B j x y os s true false None n h =
     (h.0, some_append (near B y j) os (step_of s ∷ []) ∙ or_from _ _ h.1 (or_from _ _ (sym n) refl))
-between_more B j x y os s true true Absent n h =
+between_more B j x y os s true true None n h =
     let p : ChainStep → Bool = near B y j in
     let d = unit_step x zero nothing x in
     inr (
@@ -175,10 +175,10 @@ module _ (B : Binarised) (bounded : Bounded B) (ends : EndsBelow B) where
     ]
   ]
 
-  chosen_from : (n x y : ℕ) (o : Chain) → within B y n x ≡ within B y B.symbols x → WithinSteps B n x y o → Chosen B x y o
-  chosen_from n x y Absent e h = sym e ∙ h
-  chosen_from n x y Empty e h = h
-  chosen_from n x y (Steps k s) e h = (sym e ∙ within_on B y (suc h.1.0) n x (omega (arith, h.0, h.1.1)) h.1.3, h.1)
+  chosen_from : (n x y : ℕ) (o : Option Chain) → within B y n x ≡ within B y B.symbols x → WithinSteps B n x y o → Chosen B x y o
+  chosen_from n x y None e h = sym e ∙ h
+  chosen_from n x y (Some Empty) e h = h
+  chosen_from n x y (Some (Steps k s)) e h = (sym e ∙ within_on B y (suc h.1.0) n x (omega (arith, h.0, h.1.1)) h.1.3, h.1)
 
   -- as many rounds as symbols but one, or more
   pub chains_all : (n : ℕ) (c : Chains) → B.symbols ≤ suc n → AfterSteps B n c → ChosenChains B c
@@ -196,12 +196,12 @@ module _ (B : Binarised) (bounded : Bounded B) (ends : EndsBelow B) where
   ]
     where
       before : AfterSteps B j d
-      before x y a b = subst (λ t. WithinSteps B j x y (get_or (get_or t x []) y Absent)) (sym e) (h x y a b)
+      before x y a b = subst (λ t. WithinSteps B j x y (get_or (get_or t x []) y None)) (sym e) (h x y a b)
 
-      same : (x y : ℕ) (o : Chain) → WithinSteps B j x y o → WithinSteps B (suc j) x y o → within B y (suc j) x ≡ within B y j x
-      same x y Absent p q = q ∙ sym p
-      same x y Empty p q = subst (λ z. within B z (suc j) x ≡ within B z j x) p (within_self B x (suc j) ∙ sym (within_self B x j))
-      same x y (Steps k s) p q =
+      same : (x y : ℕ) (o : Option Chain) → WithinSteps B j x y o → WithinSteps B (suc j) x y o → within B y (suc j) x ≡ within B y j x
+      same x y None p q = q ∙ sym p
+      same x y (Some Empty) p q = subst (λ z. within B z (suc j) x ≡ within B z j x) p (within_self B x (suc j) ∙ sym (within_self B x j))
+      same x y (Some (Steps k s)) p q =
           within_on B y (suc p.1.0) (suc j) x (omega (arith, p.0, p.1.1)) p.1.3 ∙ sym (within_on B y (suc p.1.0) j x (omega (arith, p.0, p.1.1)) p.1.3)
 
 -- the turn of a round: the first steps of the list are done

@@ -17,7 +17,7 @@ use Rattle.conversion.specs.declared.nullable.Brought.{Brought}
 use Rattle.conversion.specs.declared.nullable.Nullable.{Nullable}
 use Rattle.conversion.specs.declared.chain.UnitStep.{UnitStep}
 use Rattle.conversion.specs.declared.chain.Chain.{Chain}
-use Rattle.conversion.specs.declared.chain.Chain.TheVariants.{Absent, Empty, Steps}
+use Rattle.conversion.specs.declared.chain.Chain.TheVariants.{Empty, Steps}
 use Rattle.conversion.specs.declared.chain.Chains.{Chains}
 use Rattle.conversion.proofs.Bringing.{held_on, held_last}
 use Rattle.conversion.proofs.Reaching.{within_on}
@@ -110,31 +110,31 @@ module _ (B : Binarised) (bounded : Bounded B) where
     pub shortest_fewer : (c : Chains) → ChosenChains B c → (x k : ℕ) (s : UnitStep) → s.to < 128 → y < 128 → Shortest B x y k s → shorter k (link c s.to y) ≡ true
     shortest_fewer c all x k s a b h = at (link c s.to y) (all s.to y a b)
       where
-        at : (o : Chain) → Chosen B s.to y o → shorter k o ≡ true
-        at Absent p = absurd (both_ways _ p (reached_last h.0 s.to (shortest_next x k s h)))
-        at Empty p = lt-ltb 0 k (omega (arith, h.1))
-        at (Steps m t) p = lt-ltb m k (elim (cases_lt p.1.0 h.0) [
+        at : (o : Option Chain) → Chosen B s.to y o → shorter k o ≡ true
+        at None p = absurd (both_ways _ p (reached_last h.0 s.to (shortest_next x k s h)))
+        at (Some Empty) p = lt-ltb 0 k (omega (arith, h.1))
+        at (Some (Steps m t)) p = lt-ltb m k (elim (cases_lt p.1.0 h.0) [
           | inl l ↦ omega (arith, h.1, p.1.1)
           | inr g ↦ absurd (both_ways _ p.1.2 (within_on B y h.0 p.1.0 s.to g (shortest_next x k s h)))
         ])
 
 -- the chain from a symbol to itself is empty
-pub link_self : (B : Binarised) (c : Chains) → ChosenChains B c → (x : ℕ) → x < 128 → link c x x ≡ Empty
+pub link_self : (B : Binarised) (c : Chains) → ChosenChains B c → (x : ℕ) → x < 128 → link c x x ≡ Some Empty
 link_self B c h x a = at (link c x x) (h x x a a)
   where
-    at : (o : Chain) → Chosen B x x o → o ≡ Empty
-    at Absent p = absurd (both_ways _ p (within_self B x B.symbols))
-    at Empty p = refl
-    at (Steps k s) p = absurd (both_ways _ p.1.2 (within_self B x p.1.0))
+    at : (o : Option Chain) → Chosen B x x o → o ≡ Some Empty
+    at None p = absurd (both_ways _ p (within_self B x B.symbols))
+    at (Some Empty) p = refl
+    at (Some (Steps k s)) p = absurd (both_ways _ p.1.2 (within_self B x p.1.0))
 
 -- a chain is in the table exactly if one leads
 pub link_leads : (B : Binarised) (c : Chains) → ChosenChains B c → (x y : ℕ) → x < 128 → y < 128 → leads (link c x y) ≡ within B y B.symbols x
 link_leads B c h x y a b = at (link c x y) (h x y a b)
   where
-    at : (o : Chain) → Chosen B x y o → leads o ≡ within B y B.symbols x
-    at Absent p = sym p
-    at Empty p = sym (subst (λ z. within B z B.symbols x ≡ true) p (within_self B x B.symbols))
-    at (Steps k s) p = sym p.0
+    at : (o : Option Chain) → Chosen B x y o → leads o ≡ within B y B.symbols x
+    at None p = sym p
+    at (Some Empty) p = sym (subst (λ z. within B z B.symbols x ≡ true) p (within_self B x B.symbols))
+    at (Some (Steps k s)) p = sym p.0
 
 -- where the items of each rule are below the bound, so is where each step leads
 pub ends_below : (B : Binarised) (T : ℕ) → ((x n : ℕ) (b : RightSide) → Has B x n b → Within B.symbols T b) → EndsBelow B

@@ -1,15 +1,15 @@
 -- Strict rules as they are found, and the table of chains by which they are found.
-use Rattle.std.specs.Prelude.{◌≡◌, ℕ, ◌<◌, ◌≤◌, Bool, List, ◌++◌, map, length, take, nat_le}
+use Rattle.std.specs.Prelude.{◌≡◌, ℕ, ◌<◌, Bool, List, ◌++◌, map, length, take, nat_le}
 use Rattle.grammar.specs.Lists.{those, each, below}
-use Rattle.grammar.specs.Binarised.{Binarised, OwnRule, rules_in, Bounded}
+use Rattle.grammar.specs.Binarised.{Binarised, OwnRule, rules_in}
 use Rattle.grammar.specs.Chains.{within}
-use Rattle.grammar.specs.Strict.{StrictFormRule, proper, strict_rule, strict_rules}
+use Rattle.grammar.specs.Strict.{StrictFormRule, proper, strict_rule}
 use Rattle.conversion.specs.declared.right.Right.{Right}
 use Rattle.conversion.specs.declared.right.BinarisedRule.{BinarisedRule}
 use Rattle.conversion.specs.declared.chain.Chains.{Chains}
 use Rattle.conversion.specs.declared.strict.StrictRules.{StrictRules}
 use Rattle.conversion.specs.Linked.{link, leads}
-use Rattle.conversion.specs.Views.{right_side_of, rule_of, binarised_of, strict_rule_of}
+use Rattle.conversion.specs.Views.{right_side_of, rule_of, strict_rule_of}
 
 -- the table has a chain from x to y
 abbrev pub linked : Chains → ℕ → ℕ → Bool
@@ -23,9 +23,9 @@ Reached B c = (x y : ℕ) → x < 128 → y < 128 → linked c x y ≡ within B 
 abbrev pub proper_right : Right → Bool
 proper_right r = proper (right_side_of r)
 
--- the array holds the first 1,024 of the list, and says whether these are all
+-- they are the first 1,024 of the list, and say whether these are all
 abbrev pub Holds : List StrictFormRule → StrictRules → Type 0
-Holds l s = (map strict_rule_of (take s.count s.rules) ≡ take 1024 l) × (s.complete ≡ nat_le (length l) 1024)
+Holds l s = (map strict_rule_of s.rules.items ≡ take 1024 l) × (s.complete ≡ nat_le (length l) 1024)
 
 -- whatever list it held, it holds that with these at the end
 abbrev pub Appends : StrictRules → StrictRules → List StrictFormRule → Type 0
@@ -38,7 +38,3 @@ by_end rules x y = map (strict_rule x y) (those (λ (o : OwnRule). proper o.1) (
 -- the strict rules of x by the rules of the first n symbols, as far as the table has a chain there
 unfoldable pub by_ends : List BinarisedRule → Chains → ℕ → ℕ → List StrictFormRule
 by_ends rules c x n = each (by_end rules x) (those (linked c x) (below n))
-
--- the array holds the strict rules of any grammar of these rules whose chains the table has
-abbrev pub StrictIn : List BinarisedRule → Chains → StrictRules → Type 0
-StrictIn rules c s = (S : ℕ) → S ≤ 128 → Bounded (binarised_of rules S) → Reached (binarised_of rules S) c → Holds (strict_rules (binarised_of rules S)) s

@@ -1,5 +1,5 @@
--- What the arrays of a conversion stand for.
-use Rattle.std.specs.Prelude.{ℕ, List, map}
+-- What the parts of a conversion stand for.
+use Rattle.std.specs.Prelude.{ℕ, List, map, Some, None, Option}
 use Rattle.grammar.specs.Binarised.{Right as RightSide, empty, unit, binary, terminal, Rule, rule, Binarised}
 use Rattle.grammar.specs.Chains.{ChainStep, Dropped as Drop, nothing, the_right, the_left}
 use Rattle.grammar.specs.Strict.{StrictFormRule}
@@ -7,7 +7,7 @@ use Rattle.conversion.specs.declared.right.Right.{Right}
 use Rattle.conversion.specs.declared.right.Right.TheVariants.{Empty, Unit, Binary, Terminal}
 use Rattle.conversion.specs.declared.right.BinarisedRule.{BinarisedRule}
 use Rattle.conversion.specs.declared.chain.Dropped.{Dropped}
-use Rattle.conversion.specs.declared.chain.Dropped.TheVariants.{Nothing, Right as OnTheRight, Left as OnTheLeft}
+use Rattle.conversion.specs.declared.chain.Dropped.TheVariants.{Right as OnTheRight, Left as OnTheLeft}
 use Rattle.conversion.specs.declared.chain.UnitStep.{UnitStep}
 use Rattle.conversion.specs.declared.strict.StrictRule.{StrictRule}
 
@@ -27,10 +27,10 @@ abbrev pub binarised_of : List BinarisedRule → ℕ → Binarised
 binarised_of rules S = record { rules = map rule_of rules; symbols = S }
 
 -- what a unit step drops
-abbrev pub drop_of : Dropped → Drop
-drop_of Nothing = nothing
-drop_of (OnTheRight z) = the_right z
-drop_of (OnTheLeft y) = the_left y
+abbrev pub drop_of : Option Dropped → Drop
+drop_of None = nothing
+drop_of (Some (OnTheRight z)) = the_right z
+drop_of (Some (OnTheLeft y)) = the_left y
 
 -- a unit step
 abbrev pub step_of : UnitStep → ChainStep

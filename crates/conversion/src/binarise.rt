@@ -1,57 +1,28 @@
 // Binarised rules from productions.
-ghost use Rattle.std.specs.Prelude.{◌≡◌, ◌<◌, ◌≤◌, [], map, length, take};
-ghost use Rattle.grammar.specs.Productions.{all_tails};
-ghost use Rattle.grammar.specs.Binarise.{binarised_rules, binarised};
+ghost use Rattle.std.specs.Prelude.{◌≡◌, ◌<◌, ◌≤◌, length};
+ghost use Rattle.arrayvec.specs.ArrayVec.{array_vec_len};
+ghost use Rattle.grammar.specs.Productions.{Sound};
+ghost use Rattle.grammar.specs.Binarise.{binarised};
 ghost use Rattle.conversion.specs.Rows.{production_of};
-ghost use Rattle.conversion.specs.Binarised.{rows_book, rules_held, Pushed, Tailed, Room, Divided, Single};
+ghost use Rattle.conversion.specs.Binarised.{rows_book, grammar_of, Pushed, Tailed, Room, Divided, Single};
 
 use crate::binarised::BinarisedRules;
 use crate::production::Production;
 use crate::right::{BinarisedRule, Right};
+use arrayvec::ArrayVec;
 
 impl BinarisedRules {
-    // No rule, and no tail.
-    fn none() -> BinarisedRules
-        ensures { (rules_held result ≡ []) × (result.symbols ≡ 64) }
-    {
-        let rule = BinarisedRule {
-            left: 0,
-            number: 0,
-            right: Right::Empty,
-        };
-        BinarisedRules {
-            rules: [rule; 160],
-            count: 0,
-            symbols: 64,
-        }
-    }
-
-    // The rules, in the order of their productions.
-    pub(crate) fn list(&self) -> &[BinarisedRule]
-        ensures { result.now ≡ take self.now.count self.now.rules }
-    {
-        &self.rules[0..self.count]
-    }
-
-    // The number of symbols: 64 and the tails.
-    pub(crate) fn symbols(&self) -> usize
-        ensures { (result ≡ self.now.symbols) × ((result ≤ 128) × (64 ≤ result)) }
-    {
-        self.symbols
-    }
-
     // One rule more at the end.
     fn push(&mut self, left: u8, number: u8, right: Right)
-        requires { self.old.count < 160 }
+        requires room { array_vec_len self.old.rules < 160 }
+        requires bounded { left < self.old.symbols }
         ensures { Pushed self.old self.new left number right }
     {
-        let at = self.count;
-        self.rules[at] = BinarisedRule {
+        self.rules.push(BinarisedRule {
             left,
             number,
             right,
-        };
-        self.count = at + 1;
+        });
     }
 
     // The next tail.
@@ -67,14 +38,16 @@ impl BinarisedRules {
     // The rules of a right side of two items or more: each pair is an item and the tail that stands for the items after it, the
     // last one the last two items.
     fn pairs(&mut self, head: u8, number: u8, items: &[u8])
-        requires { (2 ≤ length items.now) × (Room self.old items.now) }
+        requires several { 2 ≤ length items.now }
+        requires room { Room self.old items.now }
+        requires head { head < 64 }
         ensures { Divided self.old self.new head number items.now }
     {
         let last = items.len() - 2;
         let mut left = head;
-        for k in 0..last {
+        for item in &items[..last] {
             let tail = self.tail();
-            self.push(left, number, Right::Binary(items[k], tail));
+            self.push(left, number, Right::Binary(*item, tail));
             left = tail;
         }
         self.push(left, number, Right::Binary(items[last], items[last + 1]));
@@ -82,7 +55,8 @@ impl BinarisedRules {
 
     // The rules of one production.
     fn production(&mut self, number: u8, production: &Production)
-        requires { Room self.old (production_of production.now).right }
+        requires room { Room self.old (production_of production.now).right }
+        requires head { (production_of production.now).head < 64 }
         ensures { Divided self.old self.new (production_of production.now).head number (production_of production.now).right }
     {
         let items = production.right();
@@ -107,13 +81,13 @@ fn single(item: u8) -> Right
 
 // The binarised rules of productions, by production and then by place, and after them one rule for each pattern's own symbol.
 pub(crate) fn binarise(productions: &[Production], patterns: u8) -> BinarisedRules
-    requires few { length productions.now ≤ 64 }
-    requires patterns { patterns ≤ 32 }
-    requires tails { all_tails (map production_of productions.now) ≤ 64 }
-    ensures rules { rules_held result ≡ binarised_rules (rows_book productions.now patterns) }
-    ensures symbols { result.symbols ≡ (binarised (rows_book productions.now patterns)).symbols }
+    requires { Sound (rows_book productions.now patterns) }
+    ensures { grammar_of result ≡ binarised (rows_book productions.now patterns) }
 {
-    let mut out = BinarisedRules::none();
+    let mut out = BinarisedRules {
+        rules: ArrayVec::new(),
+        symbols: 64,
+    };
     for (n, production) in productions.iter().enumerate() {
         out.production(n as u8, production);
     }

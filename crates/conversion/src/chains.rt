@@ -1,47 +1,44 @@
 // Chosen chains by rounds: round k finds the pairs of symbols whose shortest chain has k steps.
-ghost use Rattle.std.specs.Prelude.{◌≡◌, ℕ, suc, ◌<◌, ◌≤◌, false, ◌&&◌, [], map, replicate, if◌then◌else◌, ◌==◌, nat_eq, slice_index_or};
-ghost use Rattle.grammar.specs.Binarised.{Binarised, Bounded};
+ghost use Rattle.std.specs.Prelude.{◌≡◌, ℕ, suc, ◌<◌, ◌≤◌, false, ◌&&◌, [], map, if◌then◌else◌, Some, None, ◌==◌, nat_eq, slice_index_or};
+ghost use Rattle.grammar.specs.Binarised.{Binarised};
+ghost use Rattle.conversion.specs.Binarised.{grammar_of};
+ghost use Rattle.conversion.specs.Held.{Nullables};
 ghost use Rattle.conversion.specs.Linked.{AfterSteps, ChosenChains, EndsBelow, all_steps, extended, leads, link, shorter};
 ghost use Rattle.conversion.specs.Views.{step_of};
 
+use crate::binarised::BinarisedRules;
 use crate::chain::{Chain, Chains, UnitStep};
+use crate::nullable::Nullable;
+use crate::steps::unit_steps;
 
 impl Chains {
-    fn none() -> Chains
-        ensures { result.links ≡ replicate 128 (replicate 128 Chain.Absent) }
-    {
-        Chains {
-            links: [[Chain::Absent; 128]; 128],
-        }
-    }
-
     // From each symbol to itself, and nowhere else.
     fn start() -> Chains
-        ensures { (x y : ℕ) → x < 128 → y < 128 → link result x y ≡ (if nat_eq x y then Chain.Empty else Chain.Absent) }
+        ensures { (x y : ℕ) → x < 128 → y < 128 → link result x y ≡ (if nat_eq x y then Some Chain.Empty else None) }
     {
-        let mut out = Chains::none();
+        let mut out = Chains {
+            links: [[None; 128]; 128],
+        };
         for x in 0..128 {
             out.put(x, x, Chain::Empty);
         }
         out
     }
 
-    // The chosen chain from one symbol to another.
-    pub(crate) fn get(&self, from: u8, to: u8) -> Chain
-        ensures { result ≡ slice_index_or (slice_index_or self.now.links from []) to Chain.Absent }
+    // The chosen chain from one symbol to another, if one leads there.
+    pub(crate) fn get(&self, from: u8, to: u8) -> Option<Chain>
+        ensures { result ≡ slice_index_or (slice_index_or self.now.links from []) to None }
     {
-        if from < 128 && to < 128 {
-            self.links[from as usize][to as usize]
-        } else {
-            Chain::Absent
-        }
+        *self.links.get(from as usize)?.get(to as usize)?
     }
 
+    // The chosen chain from one symbol to another is found.
+    // A test of the bounds, and no get_mut: that is one test inside the other.
     fn put(&mut self, from: u8, to: u8, chain: Chain)
-        ensures { (x y : ℕ) → x < 128 → y < 128 → link self.new x y ≡ (if nat_eq x from && y == to then chain else link self.old x y) }
+        ensures { (x y : ℕ) → x < 128 → y < 128 → link self.new x y ≡ (if nat_eq x from && y == to then Some chain else link self.old x y) }
     {
         if from < 128 && to < 128 {
-            self.links[from as usize][to as usize] = chain;
+            self.links[from as usize][to as usize] = Some(chain);
         }
     }
 
@@ -49,7 +46,7 @@ impl Chains {
     pub(crate) fn reaches(&self, from: u8, to: u8) -> bool
         ensures { result ≡ leads (link self.now from to) }
     {
-        !matches!(self.get(from, to), Chain::Absent)
+        self.get(from, to).is_some()
     }
 
     // Whether a chain of fewer steps than these leads there.
@@ -57,9 +54,9 @@ impl Chains {
         ensures { result ≡ shorter steps (link self.now from to) }
     {
         match self.get(from, to) {
-            Chain::Absent => false,
-            Chain::Empty => steps > 0,
-            Chain::Steps(k, _) => k < steps,
+            None => false,
+            Some(Chain::Empty) => steps > 0,
+            Some(Chain::Steps(k, _)) => k < steps,
         }
     }
 
@@ -85,21 +82,22 @@ impl Chains {
     {
         let mut grew = false;
         for step in list {
-            if self.extend(*step, steps) {
-                grew = true;
-            }
+            grew |= self.extend(*step, steps);
         }
         grew
     }
 }
 
 // The chosen chains of unit steps. A shortest chain passes no symbol twice, so it has fewer than 128 steps.
-pub(crate) fn chains(list: &[UnitStep]) -> Chains
-    ensures { (B : Binarised) → B.symbols ≤ 128 → Bounded B → EndsBelow B → map step_of list.now ≡ all_steps B → ChosenChains B result }
+pub(crate) fn chains(binarised: &BinarisedRules, nullable: &Nullable) -> Chains
+    requires nullables { Nullables (grammar_of binarised.now) nullable.now }
+    requires ends { EndsBelow (grammar_of binarised.now) }
+    ensures { ChosenChains (grammar_of binarised.now) result }
 {
+    let list = unit_steps(binarised, nullable);
     let mut out = Chains::start();
     for steps in 1..128 {
-        if !out.round(list, steps) {
+        if !out.round(&list, steps) {
             break;
         }
     }

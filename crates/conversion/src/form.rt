@@ -1,10 +1,12 @@
 // The strict form of a list of productions.
-ghost use Rattle.std.specs.Prelude.{◌≡◌, ◌≤◌, [], ◌∷◌, take, None, slice_index_or};
+ghost use Rattle.std.specs.Prelude.{◌≡◌, ◌≤◌, [], ◌∷◌, None, slice_index_or};
 ghost use Rattle.grammar.specs.Productions.{Sound};
-ghost use Rattle.conversion.specs.Binarised.{rows_book};
+ghost use Rattle.grammar.specs.Strict.{strict_rules};
+ghost use Rattle.conversion.specs.Binarised.{rows_book, grammar_of};
 ghost use Rattle.conversion.specs.Forms.{FormOf};
 ghost use Rattle.conversion.specs.Views.{strict_rule_of};
-ghost use Rattle.conversion.specs.Found.{proper_right, Holds, Appends, by_end, by_ends, StrictIn};
+ghost use Rattle.conversion.specs.Linked.{ChosenChains};
+ghost use Rattle.conversion.specs.Found.{proper_right, Holds, Appends, by_end, by_ends};
 
 use crate::binarise::binarise;
 use crate::binarised::BinarisedRules;
@@ -14,47 +16,22 @@ use crate::nullable::{Brought, Nullable};
 use crate::nullables::nullable;
 use crate::production::Production;
 use crate::right::{BinarisedRule, Right};
-use crate::steps::unit_steps;
 use crate::strict::{StrictRule, StrictRules};
+use arrayvec::ArrayVec;
 
 // Whether a right side stands in a strict rule: a pair or a pattern.
 fn proper(right: Right) -> bool
     ensures { result ≡ proper_right right }
 {
-    match right {
-        Right::Empty => false,
-        Right::Unit(_) => false,
-        Right::Binary(_, _) => true,
-        Right::Terminal(_) => true,
-    }
+    matches!(right, Right::Binary(_, _) | Right::Terminal(_))
 }
 
 impl StrictRules {
-    fn none() -> StrictRules
-        ensures { Holds [] result }
-    {
-        let rule = StrictRule {
-            symbol: 0,
-            end: 0,
-            number: 0,
-            right: Right::Empty,
-        };
-        StrictRules {
-            rules: [rule; 1024],
-            count: 0,
-            complete: true,
-        }
-    }
-
     // One rule more at the end, or the note that there was no room for it.
     fn push(&mut self, rule: StrictRule)
         ensures { Appends self.old self.new (strict_rule_of rule ∷ []) }
     {
-        let at = self.count;
-        if at < 1024 {
-            self.rules[at] = rule;
-            self.count = at + 1;
-        } else {
+        if self.rules.try_push(rule).is_err() {
             self.complete = false;
         }
     }
@@ -87,12 +64,16 @@ impl StrictRules {
     }
 
     // The strict rules, by symbol, then by the end of the chain, then by number.
-    fn all(rules: &[BinarisedRule], chains: &Chains) -> StrictRules
-        ensures { StrictIn rules.now chains.now result }
+    fn all(binarised: &BinarisedRules, chains: &Chains) -> StrictRules
+        requires { ChosenChains (grammar_of binarised.now) chains.now }
+        ensures { Holds (strict_rules (grammar_of binarised.now)) result }
     {
-        let mut out = StrictRules::none();
+        let mut out = StrictRules {
+            rules: ArrayVec::new(),
+            complete: true,
+        };
         for symbol in 0..128 {
-            out.of(symbol, rules, chains);
+            out.of(symbol, &binarised.rules, chains);
         }
         out
     }
@@ -114,14 +95,14 @@ impl StrictForm {
         ensures least { 64 ≤ result }
         ensures most { result ≤ 128 }
     {
-        self.binarised.symbols()
+        self.binarised.symbols
     }
 
     // The strict rules in their order.
     pub fn strict(&self) -> &[StrictRule]
-        ensures { result.now ≡ take self.now.strict.count self.now.strict.rules }
+        ensures { result.now ≡ self.now.strict.rules.items }
     {
-        &self.strict.rules[0..self.strict.count]
+        self.strict.rules.as_slice()
     }
 
     // Whether the strict rules found room.
@@ -138,9 +119,9 @@ impl StrictForm {
         self.nullable.get(symbol)
     }
 
-    // The chosen chain from one symbol to another.
-    pub fn chain(&self, from: u8, to: u8) -> Chain
-        ensures { result ≡ slice_index_or (slice_index_or self.now.chains.links from []) to Chain.Absent }
+    // The chosen chain from one symbol to another, if one leads there.
+    pub fn chain(&self, from: u8, to: u8) -> Option<Chain>
+        ensures { result ≡ slice_index_or (slice_index_or self.now.chains.links from []) to None }
     {
         self.chains.get(from, to)
     }
@@ -152,10 +133,9 @@ pub fn convert(productions: &[Production], patterns: u8) -> StrictForm
     ensures { FormOf (rows_book productions.now patterns) result }
 {
     let binarised = binarise(productions, patterns);
-    let nullable = nullable(binarised.list());
-    let steps = unit_steps(binarised.list(), &nullable);
-    let chains = chains(steps.list());
-    let strict = StrictRules::all(binarised.list(), &chains);
+    let nullable = nullable(&binarised);
+    let chains = chains(&binarised, &nullable);
+    let strict = StrictRules::all(&binarised, &chains);
     StrictForm {
         binarised,
         nullable,

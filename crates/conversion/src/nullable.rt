@@ -1,4 +1,4 @@
-// The nullable symbols, in an array.
+// The nullable symbols.
 ghost use Rattle.std.specs.Prelude.{◌≡◌, length};
 
 use crate::right::Right;
@@ -11,7 +11,7 @@ pub struct Brought {
     pub right: Right,
 }
 
-// For each symbol what brought it in; a symbol that nothing brought in is not nullable.
+// For each symbol what brought it in; a symbol that nothing brought in is not nullable. A table by symbol, so an array.
 #[derive(Drop)]
 pub struct Nullable {
     pub(crate) brought: [Option<Brought>; 128],

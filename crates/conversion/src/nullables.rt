@@ -1,31 +1,20 @@
 // Nullable symbols by rounds: a round looks only at what was held before it.
-ghost use Rattle.std.specs.Prelude.{◌≡◌, ℕ, suc, ◌<◌, ◌≤◌, false, replicate, is_some, Some, None, slice_index_or, slice_set};
+ghost use Rattle.std.specs.Prelude.{◌≡◌, suc, false, is_some, Some, None, slice_index_or, slice_set};
 ghost use Rattle.grammar.specs.Nullable.{ready as made_of};
-ghost use Rattle.grammar.specs.Binarised.{Bounded};
+ghost use Rattle.conversion.specs.Binarised.{grammar_of};
 ghost use Rattle.conversion.specs.Held.{sooner, AfterRounds, Nullables};
-ghost use Rattle.conversion.specs.Views.{right_side_of, binarised_of};
+ghost use Rattle.conversion.specs.Views.{right_side_of};
 
+use crate::binarised::BinarisedRules;
 use crate::nullable::{Brought, Nullable};
-use crate::right::{BinarisedRule, Right};
+use crate::right::Right;
 
 impl Nullable {
-    fn none() -> Nullable
-        ensures { result.brought ≡ replicate 128 None }
-    {
-        Nullable {
-            brought: [None; 128],
-        }
-    }
-
     // What brought a symbol in, if anything did.
     pub(crate) fn get(&self, symbol: u8) -> Option<Brought>
         ensures { result ≡ slice_index_or self.now.brought symbol None }
     {
-        if symbol < 128 {
-            self.brought[symbol as usize]
-        } else {
-            None
-        }
+        *self.brought.get(symbol as usize)?
     }
 
     // Whether the symbol derives nothing.
@@ -39,10 +28,7 @@ impl Nullable {
     fn before(&self, symbol: u8, round: u8) -> bool
         ensures { result ≡ sooner round (slice_index_or self.now.brought symbol None) }
     {
-        match self.get(symbol) {
-            Some(b) => b.round < round,
-            None => false,
-        }
+        self.get(symbol).is_some_and(|b| b.round < round)
     }
 
     // Whether a right side is made of symbols of earlier rounds alone.
@@ -52,11 +38,13 @@ impl Nullable {
         match right {
             Right::Empty => true,
             Right::Unit(y) => self.before(y, round),
-            Right::Binary(y, z) => self.before(y, round) & self.before(z, round),
+            Right::Binary(y, z) => self.before(y, round) && self.before(z, round),
             Right::Terminal(_) => false,
         }
     }
 
+    // A symbol comes in.
+    // A test of the bound, and no get_mut: after that the proof has no name for the table.
     fn put(&mut self, symbol: u8, by: Brought)
         ensures { self.new.brought ≡ slice_set self.old.brought symbol (Some by) }
     {
@@ -66,12 +54,13 @@ impl Nullable {
     }
 
     // One round: each symbol not yet held comes in by its first rule that is ready. Whether any came in.
-    fn round(&mut self, rules: &[BinarisedRule], round: u8) -> bool
-        ensures more { (S : ℕ) → S ≤ 128 → Bounded (binarised_of rules.now S) → AfterRounds (binarised_of rules.now S) round self.old → AfterRounds (binarised_of rules.now S) (suc round) self.new }
+    fn round(&mut self, binarised: &BinarisedRules, round: u8) -> bool
+        requires { AfterRounds (grammar_of binarised.now) round self.old }
+        ensures more { AfterRounds (grammar_of binarised.now) (suc round) self.new }
         ensures rest { result ≡ false → self.new.brought ≡ self.old.brought }
     {
         let mut grew = false;
-        for rule in rules {
+        for rule in binarised.rules.iter() {
             if !self.holds(rule.left) & self.ready(rule.right, round) {
                 self.put(
                     rule.left,
@@ -89,12 +78,14 @@ impl Nullable {
 }
 
 // The nullable symbols of binarised rules. Every round but the last brings a symbol in, so 128 rounds are enough.
-pub(crate) fn nullable(rules: &[BinarisedRule]) -> Nullable
-    ensures { (S : ℕ) → S ≤ 128 → Bounded (binarised_of rules.now S) → Nullables (binarised_of rules.now S) result }
+pub(crate) fn nullable(binarised: &BinarisedRules) -> Nullable
+    ensures { Nullables (grammar_of binarised.now) result }
 {
-    let mut out = Nullable::none();
+    let mut out = Nullable {
+        brought: [None; 128],
+    };
     for round in 0..128 {
-        if !out.round(rules, round) {
+        if !out.round(binarised, round) {
             break;
         }
     }

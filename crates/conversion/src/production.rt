@@ -2,6 +2,7 @@
 ghost use Rattle.std.specs.Prelude.{◌≡◌, ◌≤◌, length};
 
 // A production: its head, its right side (the first `len` of eight places), its cost.
+// Places and a length, and no ArrayVec: a production is Copy.
 #[derive(Clone, Copy)]
 pub struct Production {
     pub(crate) head: u8,

@@ -5,18 +5,6 @@ ghost use Rattle.conversion.specs.Rows.{production_of, written};
 
 use crate::production::Production;
 
-// The items at the start of an array of eight; the rest is 0.
-fn eight(items: &[u8]) -> [u8; 8]
-    requires { length items.now ≤ 8 }
-    ensures { take (length items.now) result ≡ items.now }
-{
-    let mut out = [0; 8];
-    for (i, x) in items.iter().enumerate() {
-        out[i] = *x;
-    }
-    out
-}
-
 impl Production {
     // The production of head 0 with nothing on its right side, at no cost.
     pub fn empty() -> Production
@@ -37,10 +25,12 @@ impl Production {
         if items.len() > 8 {
             return None;
         }
+        let mut places = [0; 8];
+        places[..items.len()].copy_from_slice(items);
         Some(Production {
             head,
             len: items.len() as u8,
-            items: eight(items),
+            items: places,
             cost,
         })
     }
@@ -54,7 +44,7 @@ impl Production {
     pub fn right(&self) -> &[u8]
         ensures { result.now ≡ (production_of self.now).right }
     {
-        &self.items[0..self.len as usize]
+        &self.items[..self.len as usize]
     }
 
     pub fn cost(&self) -> u16
@@ -68,11 +58,16 @@ impl Production {
         ensures is { result ≡ tails (production_of self.now).right }
         ensures few { result ≤ 6 }
     {
-        if self.len < 2 {
-            0
-        } else {
-            self.len as usize - 2
-        }
+        self.right().len().saturating_sub(2)
+    }
+}
+
+// The production that an unused row holds.
+impl Default for Production {
+    ghost is_default = { λ p. production_of p ≡ written 0 [] 0 };
+
+    fn default() -> Production {
+        Production::empty()
     }
 }
 
@@ -81,9 +76,5 @@ pub fn all_tails(productions: &[Production]) -> usize
     requires { length productions.now ≤ 64 }
     ensures { result ≡ all_tails (map production_of productions.now) }
 {
-    let mut sum = 0;
-    for p in productions {
-        sum += p.tails();
-    }
-    sum
+    productions.iter().map(|p| p.tails()).sum()
 }

@@ -1,9 +1,10 @@
 // Binarised rules: each right side is empty, a symbol, a pair of symbols or a pattern.
 
 // The right side of a binarised rule.
-#[derive(Clone, Copy)]
+#[derive(Clone, Copy, Default)]
 pub enum Right {
     // nothing
+    #[default]
     Empty,
     // one symbol
     Unit(u8),
@@ -15,7 +16,8 @@ pub enum Right {
 
 // A binarised rule: the symbol that it is a rule of, the number of the production that it comes from (255 for the rule of a
 // pattern's own symbol), its right side.
-#[derive(Clone, Copy)]
+// The number is 255 and no Option: so the format numbers that rule.
+#[derive(Clone, Copy, Default)]
 pub struct BinarisedRule {
     pub left: u8,
     pub number: u8,

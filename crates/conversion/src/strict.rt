@@ -1,11 +1,13 @@
-// Strict rules, in an array.
-ghost use Rattle.std.specs.Prelude.{◌≡◌, ◌≤◌, length};
+// Strict rules.
+ghost use Rattle.std.specs.Prelude.{◌≤◌};
+ghost use Rattle.arrayvec.specs.ArrayVec.{array_vec_len};
 
 use crate::right::Right;
+use arrayvec::ArrayVec;
 
 // A strict rule: its symbol, the symbol that the chosen chain leads to, and the number and right side (a pair or a pattern) of
 // a rule of that symbol.
-#[derive(Clone, Copy)]
+#[derive(Clone, Copy, Default)]
 pub struct StrictRule {
     pub symbol: u8,
     pub end: u8,
@@ -16,9 +18,8 @@ pub struct StrictRule {
 // The first 1,024 strict rules, and whether these are all.
 #[derive(Drop)]
 pub struct StrictRules {
-    pub(crate) rules: [StrictRule; 1024],
-    pub(crate) count: usize,
+    pub(crate) rules: ArrayVec<StrictRule, 1024>,
+    // a flag and no Result: a conversion does not fail, and the rules that found room stand
     pub(crate) complete: bool,
-    ghost sized: { length rules ≡ 1024 },
-    ghost few: { count ≤ 1024 },
+    ghost few: { array_vec_len rules ≤ 1024 },
 }

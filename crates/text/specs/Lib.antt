@@ -1,9 +1,9 @@
 pub mod Faults
-pub mod Fixed
 pub mod Kinds
 pub mod Limits
 pub mod Lines
 pub mod Numbers
 pub mod Outcomes
 pub mod Stages
+pub mod Turns
 pub mod Words

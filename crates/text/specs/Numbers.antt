@@ -1,3 +1,4 @@
+use Rattle.std.specs.List.{list_all}
 use Rattle.std.specs.Prelude.{ℕ, ◌+◌, ◌-◌, ◌*◌, Bool, true, false, not, ◌&&◌, List, [], ◌∷◌, ◌==◌, nat_le}
 
 -- 0 to 9
@@ -6,8 +7,7 @@ is_digit b = nat_le 48 b && nat_le b 57
 
 -- every byte is a digit
 abbrev pub all_digits : List ℕ → Bool
-all_digits [] = true
-all_digits (b ∷ bs) = is_digit b && all_digits bs
+all_digits bs = list_all is_digit bs
 
 -- digits, at least one, with no leading zero but 0 itself
 abbrev pub is_numeral : List ℕ → Bool

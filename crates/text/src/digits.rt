@@ -5,12 +5,7 @@ ghost use Rattle.text.specs.Numbers.{all_digits, is_numeral, decimal};
 fn all_digits(s: &[u8]) -> bool
     ensures { result ≡ all_digits s.now }
 {
-    for b in s {
-        if *b < b'0' || *b > b'9' {
-            return false;
-        }
-    }
-    true
+    s.iter().all(|b| b.is_ascii_digit())
 }
 
 // Whether the bytes are a number: digits, at least one, with no leading zero but 0 itself.
@@ -19,7 +14,7 @@ pub(crate) fn is_numeral(s: &[u8]) -> bool
 {
     match s {
         [] => false,
-        [b] => *b >= b'0' && *b <= b'9',
+        [b] => b.is_ascii_digit(),
         [b'0', ..] => false,
         _ => all_digits(s),
     }

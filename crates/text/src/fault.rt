@@ -1,9 +1,12 @@
 // Refused lines.
-ghost use Rattle.std.specs.Prelude.{◌≡◌};
-ghost use Rattle.text.specs.Faults.{line_fault_number, line_fault_place};
+ghost use Rattle.std.specs.Prelude.{◌≡◌, Some};
+ghost use Rattle.text.specs.Faults.{line_fault_number, line_fault_place, line_fault_text};
+
+use std::error::Error;
+use std::fmt;
 
 // Why a line is refused, with the byte place in the text.
-#[derive(Clone, Copy)]
+#[derive(Clone, Copy, Debug, PartialEq, Eq)]
 pub enum LineFault {
     // a word of no kind
     Unknown(usize),
@@ -33,10 +36,25 @@ impl LineFault {
         ensures { result ≡ line_fault_place self }
     {
         match self {
-            LineFault::Unknown(at) => at,
-            LineFault::OverLimit(at) => at,
-            LineFault::OutOfPlace(at) => at,
-            LineFault::TooShort(at) => at,
+            LineFault::Unknown(at)
+            | LineFault::OverLimit(at)
+            | LineFault::OutOfPlace(at)
+            | LineFault::TooShort(at) => at,
         }
     }
 }
+
+impl fmt::Display for LineFault {
+    ghost output = { λ f. Some (line_fault_text f) };
+
+    fn fmt<W: fmt::Write>(&self, f: &mut fmt::Formatter<W>) -> fmt::Result {
+        match self {
+            LineFault::Unknown(at) => write!(f, "an unknown word at byte {at} (refusal 20)"),
+            LineFault::OverLimit(at) => write!(f, "a number over its limit at byte {at} (refusal 21)"),
+            LineFault::OutOfPlace(at) => write!(f, "a word out of place at byte {at} (refusal 22)"),
+            LineFault::TooShort(at) => write!(f, "a line too short at byte {at} (refusal 23)"),
+        }
+    }
+}
+
+impl Error for LineFault {}

@@ -4,6 +4,7 @@
 pub mod digits;
 pub mod fault;
 pub mod lexer;
+pub mod lines;
 pub mod reader;
 mod reading;
 pub mod rule_line;

@@ -13,7 +13,7 @@ use crate::lexer::classify;
 use crate::reading::{Reading, Stage};
 use crate::rule_line::RuleLine;
 use crate::token::Token;
-use crate::words::next_word;
+use crate::words::Words;
 
 // The place of a token's word.
 fn place_of(token: Token<'_>) -> usize
@@ -135,10 +135,8 @@ pub fn rule_line(text: &[u8], from: usize, end: usize) -> Result<Option<RuleLine
         stage: Stage::Start,
         line: RuleLine::bare(),
     };
-    let mut at = from;
-    while let Some(word) = next_word(text, at, end) {
+    for word in Words::of(text, from, end) {
         reading = step(reading, classify(word.bytes, word.place))?;
-        at = word.place + word.bytes.len();
     }
     finished(reading, end)
 }

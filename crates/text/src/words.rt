@@ -1,11 +1,46 @@
-ghost use Rattle.std.specs.Prelude.{◌≡◌, ℕ, ◌+◌, ◌<◌, ◌≤◌, true, false, [], ◌∷◌, length, drop, MatchOption, slice_index};
+ghost use Rattle.std.specs.Prelude.{◌≡◌, ℕ, ◌+◌, ◌-◌, ◌<◌, ◌≤◌, true, false, [], ◌∷◌, length, drop, MatchOption, slice_index};
+ghost use Rattle.std.specs.Iterator.{at_most};
 ghost use Rattle.text.specs.Words.{parts, piece, words, IsWord, IsLineEnd};
+ghost use Rattle.text.specs.Turns.{NextOfWords};
 
 // A word and its byte place in the text.
 #[derive(Clone, Copy)]
 pub struct Word<'a> {
     pub bytes: &'a [u8],
     pub place: usize,
+}
+
+// The words of a text that are still to come: the next is the first that begins from a place on, before the end.
+#[derive(Clone, Copy)]
+pub struct Words<'t> {
+    text: &'t [u8],
+    from: usize,
+    end: usize,
+}
+
+impl<'t> Words<'t> {
+    // The words that begin in from..end.
+    pub fn of(text: &'t [u8], from: usize, end: usize) -> Words<'t>
+        ensures text { result.text.now ≡ text.now }
+        ensures from { result.from ≡ from }
+        ensures end { result.end ≡ end }
+    {
+        Words { text, from, end }
+    }
+}
+
+impl<'t> Iterator for Words<'t> {
+    type Item = Word<'t>;
+
+    ghost next_gives = { NextOfWords };
+
+    ghost remaining = { λ s. at_most (s.end - s.from) };
+
+    fn next(&mut self) -> Option<Word<'t>> {
+        let word = next_word(self.text, self.from, self.end)?;
+        self.from = word.place + word.bytes.len();
+        Some(word)
+    }
 }
 
 // Whether a byte parts words: a space or a line feed.

@@ -1,8 +1,7 @@
-use Rattle.std.proofs.Common.{◌≡◌, ℕ, suc, ◌≤◌, map}
-use Rattle.grammar.specs.Binarised.{Binarised}
-use Rattle.conversion.specs.Views.{step_of}
-use Rattle.conversion.specs.Linked.{all_steps, EndsBelow, AfterSteps}
+use Rattle.std.proofs.Common.{◌≡◌, ℕ, suc}
+use Rattle.conversion.specs.Binarised.{grammar_of}
+use Rattle.conversion.specs.Linked.{AfterSteps}
 use Rattle.conversion.proofs.chains.chains.Given as goal
 
 abbrev pub invariant-loop-steps : goal.invariant-loop-steps
-invariant-loop-steps l = (B : Binarised) (j : ℕ) → l.steps ≡ suc j → B.symbols ≤ 128 → EndsBelow B → map step_of l.list ≡ all_steps B → AfterSteps B j l.out
+invariant-loop-steps l = (j : ℕ) → l.steps ≡ suc j → AfterSteps (grammar_of l.binarised) j l.out

@@ -1,50 +1,42 @@
-use Rattle.std.proofs.Common.{◌≡◌, ℕ, ◌-◌, List, length, get_or, take, drop, sym, refl, ap, ◌∙◌, arith, rules}
-use Rattle.std.proofs.lemmas.List.{nil_from_length}
-use Rattle.text.specs.Kinds.{Lettered}
-use Rattle.text.specs.Numbers.{is_numeral, decimal}
+use Rattle.std.proofs.Common.{◌≡◌, ℕ, ◌-◌, ◌<◌, true, ◌⊎◌, List, length, get_or, take, drop, sym, refl, ap, ◌∙◌, inl, inr, arith, rules}
+use Rattle.text.specs.Kinds.{Known}
+use Rattle.text.specs.Numbers.{is_numeral}
 use Rattle.text.specs.declared.token.Token.TheVariants.{Arrow, Blank, Head, Pattern, Cost, Unknown}
-use Rattle.text.proofs.Spelled.{lettered, no_numeral, kind_lettered, kind_no_number, other_letter, sound_kind}
+use Rattle.text.proofs.Spelled.{of_two, of_five, lettered, rest_of, sound_kind}
 use Rattle.text.proofs.lexer.classify.Goals as goal
 
-pub returns-in-Arrow-clause-is : goal.returns-in-Arrow-clause-is
-returns-in-Arrow-clause-is c = sym (sound_kind (Arrow c.args.word c.args.at) c.in-Arrow.ensures)
+-- a known word by its length and bytes: an arrow, blank, or a letter before a number
+abbrev Looks : List ℕ → Type 0
+Looks w = ((length w ≡ 2) × (get_or w 0 0 ≡ 45) × (get_or w 1 0 ≡ 62))
+    ⊎ (((length w ≡ 5) × (get_or w 0 0 ≡ 98) × (get_or w 1 0 ≡ 108) × (get_or w 2 0 ≡ 97) × (get_or w 3 0 ≡ 110) × (get_or w 4 0 ≡ 107))
+    ⊎ ((0 < length w) × (is_numeral (take (length w - 1) (drop 1 w)) ≡ true) × ((get_or w 0 0 ≡ 72) ⊎ ((get_or w 0 0 ≡ 80) ⊎ (get_or w 0 0 ≡ 35)))))
 
-pub returns-in-Blank-clause-is : goal.returns-in-Blank-clause-is
-returns-in-Blank-clause-is c = sym (sound_kind (Blank c.args.word c.args.at) c.in-Blank.ensures)
+looks : (w : List ℕ) → Known w → Looks w
+looks w (inl e) = inl (ap length e, ap (λ v. get_or v 0 0) e, ap (λ v. get_or v 1 0) e)
+looks w (inr (inl e)) = inr (inl (ap length e, ap (λ v. get_or v 0 0) e, ap (λ v. get_or v 1 0) e, ap (λ v. get_or v 2 0) e, ap (λ v. get_or v 3 0) e, ap (λ v. get_or v 4 0) e))
+looks w (inr (inr (inl (d, t, e)))) = inr (inr (omega (arith, ap length e), ap is_numeral (rest_of w d 72 e) ∙ t, inl (ap (λ v. get_or v 0 0) e)))
+looks w (inr (inr (inr (inl (d, t, e))))) = inr (inr (omega (arith, ap length e), ap is_numeral (rest_of w d 80 e) ∙ t, inr (inl (ap (λ v. get_or v 0 0) e))))
+looks w (inr (inr (inr (inr (d, t, e))))) = inr (inr (omega (arith, ap length e), ap is_numeral (rest_of w d 35 e) ∙ t, inr (inr (ap (λ v. get_or v 0 0) e))))
 
-pub returns-in_default-clause-is : goal.returns-in_default-clause-is
-returns-in_default-clause-is c =
-    let n = c.in-Neither.ensures in
-    let e : length c.args.word.now ≡ 0 = search rules in
-    sym (kind_no_number c.args.word.now (ap (λ (w : List ℕ). is_numeral (take (length w - 1) (drop 1 w))) (nil_from_length c.args.word.now e)) n.0 n.1)
+pub returns-in-45-clause-is : goal.returns-in-45-clause-is
+returns-in-45-clause-is c = sym (sound_kind (Arrow c.args.word c.args.at) (of_two c.args.word.now 45 62 (search rules) (search rules) (search rules)))
 
-pub returns-then-not-is_numeral : goal.returns-then-not-is_numeral
-returns-then-not-is_numeral c =
-    let n = c.in-Neither.ensures in
-    let no = no_numeral c.args.word.now (sym c.if-not-is_numeral.ensures) n.0 n.1 in
+pub returns-in-blank-clause-sound : goal.returns-in-blank-clause-sound
+returns-in-blank-clause-sound c = of_five c.args.word.now 98 108 97 110 107 (search rules) (search rules) (search rules) (search rules) (search rules) (search rules)
+
+pub returns-in-blank-clause-is : goal.returns-in-blank-clause-is
+returns-in-blank-clause-is c = sym (sound_kind (Blank c.args.word c.args.at) (of_five c.args.word.now 98 108 97 110 107 (search rules) (search rules) (search rules) (search rules) (search rules) (search rules)))
+
+pub returns-in-72-clause-is : goal.returns-in-72-clause-is
+returns-in-72-clause-is c = let w = c.args.word.now in let h : get_or w 0 0 ≡ 72 = grind arith in sym (sound_kind (Head c.args.word c.args.at) (lettered w 72 (omega arith) h (sym c.if-is_numeral-2.ensures)))
+
+pub returns-in-80-clause-is : goal.returns-in-80-clause-is
+returns-in-80-clause-is c = let w = c.args.word.now in let h : get_or w 0 0 ≡ 80 = grind arith in sym (sound_kind (Pattern c.args.word c.args.at) (lettered w 80 (omega arith) h (sym c.if-is_numeral.ensures)))
+
+pub returns-in-35-clause-is : goal.returns-in-35-clause-is
+returns-in-35-clause-is c = let w = c.args.word.now in let h : get_or w 0 0 ≡ 35 = grind arith in sym (sound_kind (Cost c.args.word c.args.at) (lettered w 35 (omega arith) h (sym c.if-is_numeral-3.ensures)))
+
+pub returns-in_default : goal.returns-in_default
+returns-in_default c =
+    let no : Known c.args.word.now → ⊥ = λ k. (let l : Looks c.args.word.now = looks c.args.word.now k in grind arith) in
     record { word = refl; place = refl; sound = no; is = sym (sound_kind (Unknown c.args.word c.args.at) no) }
-
-pub returns-in-72 : goal.returns-in-72
-returns-in-72 c =
-    let h : Lettered 72 c.args.word.now = lettered c.args.word.now 72 (omega arith) c.in-72.is (sym c.if-not-is_numeral.ensures) in
-    record { word = refl; place = refl; sound = h; is = sym (sound_kind (Head c.args.word c.args.at) h) }
-
-pub returns-in-80 : goal.returns-in-80
-returns-in-80 c =
-    let h : Lettered 80 c.args.word.now = lettered c.args.word.now 80 (omega arith) c.in-80.is (sym c.if-not-is_numeral.ensures) in
-    record { word = refl; place = refl; sound = h; is = sym (sound_kind (Pattern c.args.word c.args.at) h) }
-
-pub returns-in-35 : goal.returns-in-35
-returns-in-35 c =
-    let h : Lettered 35 c.args.word.now = lettered c.args.word.now 35 (omega arith) c.in-35.is (sym c.if-not-is_numeral.ensures) in
-    record { word = refl; place = refl; sound = h; is = sym (sound_kind (Cost c.args.word c.args.at) h) }
-
-pub returns-in_default-first-clause-is : goal.returns-in_default-first-clause-is
-returns-in_default-first-clause-is c =
-    let n = c.in-Neither.ensures in
-    let w = c.args.word.now in
-    let a = get_or w 0 0 in
-    let h : a ≡ 72 → ⊥ = search rules in
-    let p : a ≡ 80 → ⊥ = search rules in
-    let m : a ≡ 35 → ⊥ = search rules in
-    sym (kind_lettered w a refl (sym c.if-not-is_numeral.ensures) n.0 n.1 ∙ other_letter a (decimal (drop 1 w)) h p m)

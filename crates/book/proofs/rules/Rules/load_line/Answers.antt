@@ -1,6 +1,7 @@
-use Rattle.std.proofs.Common.{◌≡◌, ℕ, List, [], length, take, drop, Ok, Option, sym, ap, ◌∙◌, arith}
-use Rattle.text.specs.Words.{Piece, words}
+use Rattle.std.proofs.Common.{◌≡◌, ℕ, List, [], length, take, Ok, Option, sym, ap, ◌∙◌, arith}
+use Rattle.text.specs.Words.{Piece}
 use Rattle.text.specs.Outcomes.{nothing, rule, line, in_nine, production_said, line_said}
+use Rattle.text.specs.Turns.{words_of, outcome_of}
 use Rattle.text.specs.declared.rule_line.RuleLine.{RuleLine}
 use Rattle.conversion.specs.Rows.{written}
 use Rattle.grammar.specs.Productions.{Production}
@@ -23,26 +24,22 @@ some_words end ws p o e = not_rule (o ∙ ap (λ v. in_nine (line end v)) e)
     not_rule q = cc
 
 pub returns-in-Ok-clause-is : goal.returns-in-Ok-clause-is
-returns-in-Ok-clause-is c whole n =
+returns-in-Ok-clause-is c n =
     let b = c.args.self.now in
-    let xs = c.args.text.now in
-    let ws = words c.args.from (drop c.args.from xs) in
-    let l = c.in-Some.line in
-    let q = offered_rule l c.head.result c.right.result.now c.cost.result c.head.ensures c.right.ensures c.cost.ensures in
-    let o = ap rule q ∙ ap (λ (v : Option RuleLine). line_said (Ok v)) (sym c.in-Some.is) ∙ c.in_ok-line.ensures.means whole in
+    let p = written c.head.result c.right.result.now c.cost.result in
+    let q = offered_rule c.in-Some.rule c.head.result c.right.result.now c.cost.result c.head.ensures c.right.ensures c.cost.ensures in
+    let o = ap rule q ∙ ap (λ (v : Option RuleLine). line_said (Ok v)) (sym c.in-Some.is) ∙ c.in_ok-rule.ensures.means in
     let s = c.in-Ok.ensures.says in
-    line_admitted b.patterns (held b) (held c.offer.new.self) n (first_place ws) (line (length xs) ws) (written c.head.result c.right.result.now c.cost.result) o s.0 s.2
+    line_admitted b.patterns (held b) (held c.offer.new.self) n (first_place (words_of c.args.line)) (outcome_of c.args.line) p o s.0 s.2
 
 pub returns-in-Err-clause-is : goal.returns-in-Err-clause-is
-returns-in-Err-clause-is c whole n =
+returns-in-Err-clause-is c n =
     let b = c.args.self.now in
-    let xs = c.args.text.now in
-    let ws = words c.args.from (drop c.args.from xs) in
-    let l = c.in-Some.line in
+    let ws = words_of c.args.line in
     let p = written c.head.result c.right.result.now c.cost.result in
-    let q = offered_rule l c.head.result c.right.result.now c.cost.result c.head.ensures c.right.ensures c.cost.ensures in
-    let o = ap rule q ∙ ap (λ (v : Option RuleLine). line_said (Ok v)) (sym c.in-Some.is) ∙ c.in_ok-line.ensures.means whole in
+    let q = offered_rule c.in-Some.rule c.head.result c.right.result.now c.cost.result c.head.ensures c.right.ensures c.cost.ensures in
+    let o = ap rule q ∙ ap (λ (v : Option RuleLine). line_said (Ok v)) (sym c.in-Some.is) ∙ c.in_ok-rule.ensures.means in
     let s = c.in-Err.ensures.says in
     let some : refusal b.patterns (held b) p ≡ 0 → ⊥ = λ z. omega (arith, s.0, some_refusal c.in-Err.field-0) in
-    ap (stopped (held c.offer.new.self) 24) (c.first_place.ensures.is whole (some_words (length xs) ws p o))
-    ∙ line_refused b.patterns (held b) (held c.offer.new.self) n (first_place ws) (line (length xs) ws) p o some (ap held s.1)
+    ap (stopped (held c.offer.new.self) 24) (c.first_place.ensures.is (some_words (length c.args.line.text.now) ws p o))
+    ∙ line_refused b.patterns (held b) (held c.offer.new.self) n (first_place ws) (outcome_of c.args.line) p o some (ap held s.1)

@@ -1,23 +1,19 @@
-use Rattle.std.proofs.Common.{map, get_or, sym, ap, ◌∙◌, subst, true≢false}
+use Rattle.std.proofs.Common.{map, get_or, None, sym, ap, ◌∙◌, subst}
+use Rattle.std.proofs.lemmas.Bool.{or_parts}
 use Rattle.std.proofs.lemmas.List.{take_all}
 use Rattle.conversion.specs.Views.{step_of}
 use Rattle.conversion.specs.Linked.{AfterSteps, extended}
-use Rattle.conversion.specs.declared.chain.Dropped.TheVariants.{Nothing}
 use Rattle.conversion.specs.declared.chain.UnitStep.{UnitStep}
 use Rattle.conversion.proofs.Reaching.{TableBetween, chains_end, round_turn}
 use Rattle.conversion.proofs.chain.Chains.round.Goals as goal
-use Rattle.conversion.proofs.chain.Chains.round.Goals.{then-extend, else-extend}
 
 pub loop-step-preserved : goal.loop-step-preserved
 loop-step-preserved c =
-    let d : UnitStep = record { from = 0; number = 0; dropped = Nothing; to = 0 } in (
-      (λ B j e l ends is h. round_turn B j c.args.list.now c.loop-step.step-index d c.loop-step.self c.extend.new.self l ends is c.loop-step-test.true
+    let d : UnitStep = record { from = 0; number = 0; dropped = None; to = 0 } in (
+      (λ B j e l ends is h. round_turn B j c.args.list.now c.loop-step.step-index d c.loop-step.self c.extend-grew.new.self l ends is c.loop-step-test.true
           (c.loop-step.invariant.0 B j e l ends is h)
-          (λ x y a b. c.extend.ensures.more x y a b ∙ ap (λ k. extended k (get_or c.args.list.now c.loop-step.step-index d) c.loop-step.self x y) e)),
-      λ e. elim c.if-extend.branch [
-        | then-extend w ↦ absurd (true≢false (sym w.grew-is ∙ e))
-        | else-extend w ↦ c.extend.ensures.rest w.if-extend.false ∙ c.loop-step.invariant.1 (sym w.grew-is ∙ e)
-      ],
+          (λ x y a b. c.extend-grew.ensures.more x y a b ∙ ap (λ k. extended k (get_or c.args.list.now c.loop-step.step-index d) c.loop-step.self x y) e)),
+      λ e. let neither = or_parts c.loop-step.grew c.extend-grew.result e in c.extend-grew.ensures.rest neither.1 ∙ c.loop-step.invariant.1 neither.0,
     )
 
 pub returns : goal.returns

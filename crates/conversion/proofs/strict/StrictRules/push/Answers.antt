@@ -1,15 +1,27 @@
-use Rattle.std.proofs.Common.{arith, rules}
-use Rattle.std.proofs.lemmas.Bool.{lt-leb}
+use Rattle.std.proofs.Common.{◌≡◌, true, false, not, map, Ok, Err, Result, sym, ap, ◌∙◌, true≢false}
+use Rattle.std.specs.Result.{OnOk, OnErr, is_err}
 use Rattle.conversion.specs.Views.{strict_rule_of}
 use Rattle.conversion.proofs.Found.{found_room, found_full}
 use Rattle.conversion.proofs.strict.StrictRules.push.Goals as goal
 
-pub returns-then-at-lt1024 : goal.returns-then-at-lt1024
-returns-then-at-lt1024 c =
-    let s = c.args.self.now in
-    λ l h. found_room strict_rule_of s.rules s.count c.args.rule s.complete l s.sized (omega arith) h
+at_err : {T E P : Type 0} (r : Result T E) → is_err r ≡ true → OnErr r P → P
+at_err (Ok x) e h = absurd (true≢false (sym e))
+at_err (Err y) e h = h
 
-pub returns-else-at-lt1024 : goal.returns-else-at-lt1024
-returns-else-at-lt1024 c =
+at_ok : {T E P : Type 0} (r : Result T E) → is_err r ≡ false → OnOk r P → P
+at_ok (Ok x) e h = h
+at_ok (Err y) e h = absurd (true≢false e)
+
+pub returns-then-is_err : goal.returns-then-is_err
+returns-then-is_err c l h =
     let s = c.args.self.now in
-    λ l h. let f = found_full strict_rule_of s.rules s.count c.args.rule s.complete l s.sized s.few (omega arith) h in let few = lt-leb _ 1024 f.1 in (f.0, search rules)
+    let e = sym c.is_err.ensures.value ∙ c.if-is_err.true in
+    let f = found_full strict_rule_of s.rules.items c.args.rule s.complete l (at_err _ e c.try_push.ensures.full) h in
+    (ap (λ v. map strict_rule_of v.items) (at_err _ e c.try_push.ensures.err) ∙ f.0, f.1)
+
+pub returns-else-is_err : goal.returns-else-is_err
+returns-else-is_err c l h =
+    let s = c.args.self.now in
+    let e = sym c.is_err.ensures.value ∙ c.if-is_err.false in
+    let f = found_room strict_rule_of s.rules.items c.args.rule s.complete l (c.try_push.ensures.variant.0 (c.is_err.ensures.negation ∙ ap not c.if-is_err.false)) h in
+    (ap (map strict_rule_of) (at_ok _ e c.try_push.ensures.ok) ∙ f.0, f.1)

@@ -1,0 +1,14 @@
+use Rattle.std.proofs.Common.{sym, subst}
+use Rattle.grammar.specs.Binarise.{binarised}
+use Rattle.conversion.specs.Linked.{Chosen}
+use Rattle.book.specs.Rules.{rules_book}
+use Rattle.book.proofs.Formed.{form_of}
+use Rattle.book.proofs.converted.Converted.chain.Goals as goal
+
+pub returns : goal.returns
+returns c low high =
+    let k = c.args.self.now in
+    let W = rules_book k.rules in
+    let x = c.args.from in
+    let y = c.args.to in
+    subst (Chosen (binarised W) x y) (sym c.chain.ensures) ((form_of W k.form k.formed).chains x y low high)
