@@ -8,7 +8,7 @@ use book::alphabet::Bytes;
 use book::books::{ClosedBook, OpenBook};
 use book::table::PatternTable;
 use std::alloc::{AllocError, Global};
-use text::words::line_end;
+use text::lines::Lines;
 
 // The longest input that is read.
 pub const LIMIT: usize = 32_768;
@@ -20,19 +20,16 @@ const LETTERS: usize = 26;
 const WEIGHTS: usize = 15_360;
 
 // The line for one trace.
-fn trace_line(
-    heap: Global,
+fn push_line(
+    out: &mut String,
     book: &ClosedBook<Bytes>,
     tables: &mut Tables,
     trace: &[u8],
-) -> Result<String, AllocError> {
+) -> Result<(), AllocError> {
     let length = trace.len();
     match tables.totals(book, trace) {
-        Ok(totals) => format!(in heap; "{length} {totals}\n"),
-        Err(fault) => {
-            let number = fault.number();
-            format!(in heap; "{length} refused {number}\n")
-        }
+        Ok(totals) => writeln!(out, "{length} {totals}"),
+        Err(fault) => writeln!(out, "{length} refused {}", fault.number()),
     }
 }
 
@@ -44,12 +41,8 @@ fn trace_lines(
 ) -> Result<String, AllocError> {
     let mut out = String::new(heap);
     let mut tables = Tables::new(heap, WEIGHTS)?;
-    let mut from = 0;
-    while from < traces.len() {
-        let end = line_end(traces, from);
-        let line = trace_line(heap, book, &mut tables, &traces[from..end])?;
-        out.push_str(line.as_str())?;
-        from = end + 1;
+    for line in Lines::of(traces) {
+        push_line(&mut out, book, &mut tables, line.bytes())?;
     }
     Ok(out)
 }
@@ -57,9 +50,7 @@ fn trace_lines(
 // The output for a book that was loaded.
 fn loaded(heap: Global, mut book: OpenBook<Bytes>, parts: Parts) -> Result<String, AllocError> {
     if let Err(fault) = book.load(parts.rules) {
-        let number = fault.number();
-        let place = fault.place();
-        return format!(in heap; "refused {number} {place}\n");
+        return format!(in heap; "refused {} {}\n", fault.number(), fault.place());
     }
     let closed = book.close();
     trace_lines(heap, &closed, parts.traces)

@@ -1,12 +1,12 @@
 // The totals of a trace by the three weighings.
-ghost use Rattle.std.specs.Prelude.{◌≡◌, ◌+◌, ◌<◌, ◌≤◌, List, ◌++◌, IfOk, MatchOption};
+ghost use Rattle.std.specs.Prelude.{◌≡◌, ◌+◌, ◌<◌, ◌≤◌, List, ◌++◌, Some, IfOk, MatchOption, vec_len};
 ghost use Rattle.grammar.specs.Binarise.{binarised};
 ghost use Rattle.book.specs.Books.{closed_book, closed_fits};
 ghost use Rattle.book.specs.Fits.{ForTests};
 ghost use Rattle.chart.specs.Table.{column_place};
 ghost use Rattle.chart.specs.Events.{Holds};
 ghost use Rattle.chart.specs.Totals.{Explained, CountsReadings, IsLeastCost};
-ghost use Rattle.programs.specs.Answers.{AreTotals};
+ghost use Rattle.programs.specs.Answers.{AreTotals, verdict_word, totals_words};
 
 use book::alphabet::Alphabet;
 use book::books::ClosedBook;
@@ -27,8 +27,14 @@ const EVENTS: usize = 256;
 pub struct Verdict(pub bool);
 
 impl fmt::Display for Verdict {
+    ghost output = { λ v. Some (verdict_word v) };
+
     fn fmt<W: fmt::Write>(&self, f: &mut fmt::Formatter<W>) -> fmt::Result {
-        write!(f, "{}", if self.0 { "yes" } else { "no" })
+        if self.0 {
+            write!(f, "yes")
+        } else {
+            write!(f, "no")
+        }
     }
 }
 
@@ -41,6 +47,8 @@ pub struct Totals {
 }
 
 impl fmt::Display for Totals {
+    ghost output = { λ t. Some (totals_words t) };
+
     fn fmt<W: fmt::Write>(&self, f: &mut fmt::Formatter<W>) -> fmt::Result {
         write!(f, "{} {} {}", self.verdict, self.count, self.least)
     }
@@ -81,7 +89,9 @@ pub struct Tables {
 
 impl Tables {
     // Tables of so many weights.
-    pub fn new(heap: Global, weights: usize) -> Result<Tables, AllocError> {
+    pub fn new(heap: Global, weights: usize) -> Result<Tables, AllocError>
+        ensures { IfOk result (λ t. (vec_len t.verdicts ≡ weights) × (vec_len t.counts ≡ weights) × (vec_len t.costs ≡ weights)) }
+    {
         Ok(Tables {
             verdicts: vec![in heap; YesNo::zero(); weights]?,
             counts: vec![in heap; Count::zero(); weights]?,
