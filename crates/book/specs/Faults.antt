@@ -1,6 +1,6 @@
--- The numbers of the refusals, and the places of those of a load.
-use Rattle.std.specs.Prelude.{ℕ}
-use Rattle.text.specs.Faults.{line_fault_number, line_fault_place}
+-- The numbers of the refusals, the places of those of a load, and the refusals in plain words.
+use Rattle.std.specs.Prelude.{ℕ, List, ◌++◌, codes, decimal}
+use Rattle.text.specs.Faults.{line_fault_number, line_fault_place, line_fault_text}
 use Rattle.book.specs.declared.fault.TableFault.{TableFault}
 use Rattle.book.specs.declared.fault.TableFault.TheVariants.{TooManyPatterns}
 use Rattle.book.specs.declared.fault.OfferFault.{OfferFault}
@@ -37,3 +37,26 @@ load_number (Refused at) = 24
 abbrev pub load_place : LoadFault → ℕ
 load_place (Line f) = line_fault_place f
 load_place (Refused at) = at
+
+-- the refusal of a check in plain words, with its number
+abbrev pub table_text : TableFault → List ℕ
+table_text TooManyPatterns = codes "more than 32 patterns (refusal 8)"
+
+-- that of an offer
+abbrev pub offer_text : OfferFault → List ℕ
+offer_text HeadTooLarge = codes "a head over 31 (refusal 1)"
+offer_text TooManyItems = codes "more than 8 items (refusal 2)"
+offer_text UnknownItem = codes "an item that is neither a head nor a pattern (refusal 3)"
+offer_text Repeated = codes "a rule that is held already (refusal 4)"
+offer_text BookFull = codes "more than 64 rules (refusal 5)"
+offer_text TooManyTails = codes "more than 64 tails (refusal 6)"
+offer_text TooManyStrictRules = codes "more than 1024 strict rules (refusal 7)"
+
+-- that of a strike
+abbrev pub strike_text : StrikeFault → List ℕ
+strike_text NoRule = codes "no rule to strike (refusal 10)"
+
+-- that of a load
+abbrev pub load_text : LoadFault → List ℕ
+load_text (Line f) = line_fault_text f
+load_text (Refused at) = codes "a rule that the book refuses in the line at byte " ++ (decimal at ++ codes " (refusal 24)")

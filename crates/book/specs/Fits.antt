@@ -1,5 +1,5 @@
 -- Which pattern fits which event.
-use Rattle.std.specs.Prelude.{◌≡◌, ℕ, zero, suc, ◌<◌, ◌≤◌, min, Bool, T, false, ◌&&◌, List, [], ◌∷◌, length, ◌==◌, nat_le, slice_index_or}
+use Rattle.std.specs.Prelude.{◌≡◌, ℕ, zero, suc, ◌<◌, ◌≤◌, Bool, T, false, ◌&&◌, List, [], ◌∷◌, length, ◌==◌, nat_le, slice_index_or}
 use Rattle.book.specs.declared.kinds.CardEvent.{CardEvent}
 use Rattle.book.specs.declared.kinds.CardPattern.{CardPattern}
 
@@ -29,7 +29,10 @@ table_fits test (p ∷ ps) e (suc t) = table_fits test ps e t
 abbrev pub FitsAt : {P E : Type 0} → (P → E → Type 0) → List P → ℕ → E → Type 0
 FitsAt fits patterns t e = (t < length patterns) × ((d : _) → fits (slice_index_or patterns t d) e)
 
--- the number of patterns of a table. It is the length of the list, since a table is made only by the check, which refuses more
--- than 32; the bound stands here because a table's type does not carry it
-abbrev pub pattern_count : {P : Type 0} → List P → ℕ
-pattern_count patterns = min (length patterns) 32
+-- the answer whether a table has a pattern t that fits an event
+pub record IsFitAnswer {P E : Type 0} (fits : P → E → Type 0) (patterns : List P) (t : ℕ) (e : E) (r : Bool) : Type 0 where
+  -- it is yes
+  pub only : T r → FitsAt fits patterns t e
+  pub always : FitsAt fits patterns t e → T r
+  -- and it is what every test of the relation gives
+  pub is : ForTests fits (λ test. r ≡ table_fits test patterns e t)

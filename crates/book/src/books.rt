@@ -1,6 +1,5 @@
 // Open and closed books: two types over one plain struct of rows.
-ghost use Rattle.std.specs.Prelude.{◌≡◌};
-ghost use Rattle.book.specs.Fits.{pattern_count};
+ghost use Rattle.std.specs.Prelude.{◌≡◌, length};
 
 use crate::alphabet::Alphabet;
 use crate::converted::Converted;
@@ -12,7 +11,7 @@ use crate::table::PatternTable;
 pub struct OpenBook<'p, A: Alphabet> {
     pub(crate) table: PatternTable<'p, A>,
     pub(crate) rules: Rules,
-    ghost over: { rules.patterns ≡ pattern_count table.patterns.now },
+    ghost over: { rules.patterns ≡ length table.patterns.now },
 }
 
 // A book that charts are cut from. It takes no rule, and has the strict form of those that it holds.
@@ -20,5 +19,5 @@ pub struct OpenBook<'p, A: Alphabet> {
 pub struct ClosedBook<'p, A: Alphabet> {
     pub(crate) table: PatternTable<'p, A>,
     pub(crate) converted: Converted,
-    ghost over: { converted.rules.patterns ≡ pattern_count table.patterns.now },
+    ghost over: { converted.rules.patterns ≡ length table.patterns.now },
 }

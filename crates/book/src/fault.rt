@@ -1,44 +1,46 @@
 // Why a call is refused. The numbers of the refusals are given by one definition for each kind of fault.
-ghost use Rattle.std.specs.Prelude.{◌≡◌};
-ghost use Rattle.book.specs.Faults.{table_number, offer_number, strike_number, load_number, load_place};
+ghost use Rattle.std.specs.Prelude.{◌≡◌, Some};
+ghost use Rattle.book.specs.Faults.{table_number, offer_number, strike_number, load_number, load_place, table_text, offer_text, strike_text, load_text};
 
+use std::error::Error;
+use std::fmt;
 use text::fault::LineFault;
 
 // Why a table of patterns is refused.
-#[derive(Clone, Copy)]
+#[derive(Clone, Copy, Debug, PartialEq, Eq)]
 pub enum TableFault {
     // more than 32 patterns
-    TooManyPatterns,
+    TooManyPatterns = 8,
 }
 
 // Why an offered rule is refused.
-#[derive(Clone, Copy)]
+#[derive(Clone, Copy, Debug, PartialEq, Eq)]
 pub enum OfferFault {
     // a head over 31
-    HeadTooLarge,
+    HeadTooLarge = 1,
     // more than 8 items
-    TooManyItems,
+    TooManyItems = 2,
     // an item that is neither a head nor a pattern of the table
-    UnknownItem,
+    UnknownItem = 3,
     // the same head and right side are held
-    Repeated,
+    Repeated = 4,
     // 64 rules are held
-    BookFull,
+    BookFull = 5,
     // more than 64 tails
-    TooManyTails,
+    TooManyTails = 6,
     // more than 1,024 strict rules
-    TooManyStrictRules,
+    TooManyStrictRules = 7,
 }
 
 // Why a strike is refused.
-#[derive(Clone, Copy)]
+#[derive(Clone, Copy, Debug, PartialEq, Eq)]
 pub enum StrikeFault {
     // no rule is held
-    NoRule,
+    NoRule = 10,
 }
 
 // Why a load is refused.
-#[derive(Clone, Copy)]
+#[derive(Clone, Copy, Debug, PartialEq, Eq)]
 pub enum LoadFault {
     // a word or a line is at fault
     Line(LineFault),
@@ -51,9 +53,7 @@ impl TableFault {
     pub fn number(self) -> u8
         ensures { result ≡ table_number self }
     {
-        match self {
-            TableFault::TooManyPatterns => 8,
-        }
+        self as u8
     }
 }
 
@@ -62,15 +62,7 @@ impl OfferFault {
     pub fn number(self) -> u8
         ensures { result ≡ offer_number self }
     {
-        match self {
-            OfferFault::HeadTooLarge => 1,
-            OfferFault::TooManyItems => 2,
-            OfferFault::UnknownItem => 3,
-            OfferFault::Repeated => 4,
-            OfferFault::BookFull => 5,
-            OfferFault::TooManyTails => 6,
-            OfferFault::TooManyStrictRules => 7,
-        }
+        self as u8
     }
 }
 
@@ -79,9 +71,7 @@ impl StrikeFault {
     pub fn number(self) -> u8
         ensures { result ≡ strike_number self }
     {
-        match self {
-            StrikeFault::NoRule => 10,
-        }
+        self as u8
     }
 }
 
@@ -106,3 +96,64 @@ impl LoadFault {
         }
     }
 }
+
+impl fmt::Display for TableFault {
+    ghost output = { λ f. Some (table_text f) };
+
+    fn fmt<W: fmt::Write>(&self, f: &mut fmt::Formatter<W>) -> fmt::Result {
+        match self {
+            TableFault::TooManyPatterns => write!(f, "more than 32 patterns (refusal 8)"),
+        }
+    }
+}
+
+impl fmt::Display for OfferFault {
+    ghost output = { λ f. Some (offer_text f) };
+
+    fn fmt<W: fmt::Write>(&self, f: &mut fmt::Formatter<W>) -> fmt::Result {
+        match self {
+            OfferFault::HeadTooLarge => write!(f, "a head over 31 (refusal 1)"),
+            OfferFault::TooManyItems => write!(f, "more than 8 items (refusal 2)"),
+            OfferFault::UnknownItem => write!(
+                f,
+                "an item that is neither a head nor a pattern (refusal 3)"
+            ),
+            OfferFault::Repeated => write!(f, "a rule that is held already (refusal 4)"),
+            OfferFault::BookFull => write!(f, "more than 64 rules (refusal 5)"),
+            OfferFault::TooManyTails => write!(f, "more than 64 tails (refusal 6)"),
+            OfferFault::TooManyStrictRules => write!(f, "more than 1024 strict rules (refusal 7)"),
+        }
+    }
+}
+
+impl fmt::Display for StrikeFault {
+    ghost output = { λ f. Some (strike_text f) };
+
+    fn fmt<W: fmt::Write>(&self, f: &mut fmt::Formatter<W>) -> fmt::Result {
+        match self {
+            StrikeFault::NoRule => write!(f, "no rule to strike (refusal 10)"),
+        }
+    }
+}
+
+impl fmt::Display for LoadFault {
+    ghost output = { λ f. Some (load_text f) };
+
+    fn fmt<W: fmt::Write>(&self, f: &mut fmt::Formatter<W>) -> fmt::Result {
+        match self {
+            LoadFault::Line(fault) => write!(f, "{fault}"),
+            LoadFault::Refused(at) => write!(
+                f,
+                "a rule that the book refuses in the line at byte {at} (refusal 24)"
+            ),
+        }
+    }
+}
+
+impl Error for TableFault {}
+
+impl Error for OfferFault {}
+
+impl Error for StrikeFault {}
+
+impl Error for LoadFault {}

@@ -1,11 +1,11 @@
 // The calls of open and closed books.
 ghost use Rattle.std.specs.Prelude.{◌≡◌, ◌≤◌, T, [], length};
 ghost use Rattle.conversion.specs.Rows.{production_of, written};
-ghost use Rattle.book.specs.Books.{open_held, closed_held, closed_book, closed_fits, closed_strict, StrictRulesAre, At};
+ghost use Rattle.book.specs.Books.{open_held, closed_held, closed_book, closed_strict, StrictRulesAre, At};
 ghost use Rattle.grammar.specs.Binarise.{binarised};
 ghost use Rattle.grammar.specs.Strict.{strict_rules};
 ghost use Rattle.conversion.specs.Views.{strict_rule_of};
-ghost use Rattle.book.specs.Fits.{ForTests, FitsAt, pattern_count};
+ghost use Rattle.book.specs.Fits.{IsFitAnswer};
 ghost use Rattle.book.specs.Loads.{Loaded, load, load_is, LoadMeans};
 ghost use Rattle.book.specs.Offers.{Offered};
 ghost use Rattle.book.specs.Rules.{held};
@@ -27,7 +27,7 @@ impl<'p, A: Alphabet> OpenBook<'p, A> {
     pub fn new(table: PatternTable<'p, A>) -> OpenBook<'p, A>
         ensures none { open_held result ≡ [] }
         ensures table { result.table.patterns.now ≡ table.exit.patterns.now }
-        ensures runs { held_after (pattern_count table.exit.patterns.now) [] ≡ open_held result }
+        ensures runs { held_after (length table.exit.patterns.now) [] ≡ open_held result }
     {
         let rules = Rules::none(table.count());
         OpenBook { table, rules }
@@ -35,9 +35,9 @@ impl<'p, A: Alphabet> OpenBook<'p, A> {
 
     // Offers a rule: its number, or the refusal.
     pub fn offer(&mut self, head: u8, items: &[u8], cost: u16) -> Result<usize, OfferFault>
-        ensures says { Offered (pattern_count self.old.table.patterns.now) held (written head items.now cost) self.old.rules self.new.rules result }
+        ensures says { Offered (length self.old.table.patterns.now) held (written head items.now cost) self.old.rules self.new.rules result }
         ensures table { self.new.table ≡ self.old.table }
-        ensures runs { RunsOn (pattern_count self.old.table.patterns.now) (an_offer head items.now cost) (open_held self.old) (open_held self.new) }
+        ensures runs { RunsOn (length self.old.table.patterns.now) (an_offer head items.now cost) (open_held self.old) (open_held self.new) }
     {
         self.rules.offer(head, items, cost)
     }
@@ -45,10 +45,10 @@ impl<'p, A: Alphabet> OpenBook<'p, A> {
     // Offers the rules of a text in turn, up to the first line that is refused: how many lines were offered, or the refusal.
     pub fn load(&mut self, text: &[u8]) -> Result<usize, LoadFault>
         ensures says { Loaded text.now (open_held self.old) (open_held self.new) result }
-        ensures is { load_is (open_held self.new) result ≡ load (pattern_count self.old.table.patterns.now) (open_held self.old) text.now }
-        ensures means { LoadMeans (pattern_count self.old.table.patterns.now) (open_held self.old) text.now }
+        ensures is { load_is (open_held self.new) result ≡ load (length self.old.table.patterns.now) (open_held self.old) text.now }
+        ensures means { LoadMeans (length self.old.table.patterns.now) (open_held self.old) text.now }
         ensures table { self.new.table ≡ self.old.table }
-        ensures runs { RunsOn (pattern_count self.old.table.patterns.now) (a_load text.now) (open_held self.old) (open_held self.new) }
+        ensures runs { RunsOn (length self.old.table.patterns.now) (a_load text.now) (open_held self.old) (open_held self.new) }
     {
         self.rules.load(text)
     }
@@ -57,7 +57,7 @@ impl<'p, A: Alphabet> OpenBook<'p, A> {
     pub fn strike(&mut self) -> Result<usize, StrikeFault>
         ensures says { Struck held self.old.rules self.new.rules result }
         ensures table { self.new.table ≡ self.old.table }
-        ensures runs { RunsOn (pattern_count self.old.table.patterns.now) a_strike (open_held self.old) (open_held self.new) }
+        ensures runs { RunsOn (length self.old.table.patterns.now) a_strike (open_held self.old) (open_held self.new) }
     {
         self.rules.strike()
     }
@@ -67,7 +67,7 @@ impl<'p, A: Alphabet> OpenBook<'p, A> {
         ensures held { closed_held result ≡ open_held self.entry }
         ensures strict { StrictRulesAre A.Event (closed_book result) (closed_strict result) }
         ensures table { result.table ≡ self.entry.table }
-        ensures runs { Leaves (pattern_count self.entry.table.patterns.now) (open_held self.entry) (closed_held result) }
+        ensures runs { Leaves (length self.entry.table.patterns.now) (open_held self.entry) (closed_held result) }
     {
         let OpenBook { table, rules } = self;
         let converted = rules.convert();
@@ -137,9 +137,7 @@ impl<'p, A: Alphabet> ClosedBook<'p, A> {
 
     // Whether there is a pattern of that number and it fits the event.
     pub fn fits(&self, number: u8, event: A::Event) -> bool
-        ensures only { T result → FitsAt A.Alphabet.fits self.now.table.patterns.now number event }
-        ensures always { FitsAt A.Alphabet.fits self.now.table.patterns.now number event → T result }
-        ensures is { ForTests A.Alphabet.fits (λ test. result ≡ closed_fits test self.now event number) }
+        ensures { IsFitAnswer A.Alphabet.fits self.now.table.patterns.now number event result }
     {
         self.table.fits(number, event)
     }

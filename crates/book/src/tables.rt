@@ -1,6 +1,6 @@
 // What is asked of a table of patterns.
-ghost use Rattle.std.specs.Prelude.{◌≡◌, ◌≤◌, T};
-ghost use Rattle.book.specs.Fits.{ForTests, FitsAt, table_fits, pattern_count};
+ghost use Rattle.std.specs.Prelude.{◌≡◌, ◌≤◌, length};
+ghost use Rattle.book.specs.Fits.{IsFitAnswer};
 ghost use Rattle.book.specs.Tables.{Checked};
 
 use crate::alphabet::Alphabet;
@@ -9,20 +9,6 @@ use crate::table::PatternTable;
 
 // So many patterns a table has at most.
 const PATTERNS: usize = 32;
-
-// Whether there is a pattern of that number and it fits the event.
-fn fits_at<A: Alphabet>(patterns: &[A::Pattern], number: u8, event: A::Event) -> bool
-    ensures only { T result → FitsAt A.Alphabet.fits patterns.now number event }
-    ensures always { FitsAt A.Alphabet.fits patterns.now number event → T result }
-    ensures is { ForTests A.Alphabet.fits (λ test. result ≡ table_fits test patterns.now event number) }
-{
-    let at = number as usize;
-    if at < patterns.len() {
-        A::fit(patterns[at], event)
-    } else {
-        false
-    }
-}
 
 impl<'p, A: Alphabet> PatternTable<'p, A> {
     // The table of these patterns, refused where there are more than 32.
@@ -37,22 +23,18 @@ impl<'p, A: Alphabet> PatternTable<'p, A> {
 
     // How many patterns there are.
     pub fn count(&self) -> u8
-        ensures is { result ≡ pattern_count self.now.patterns.now }
+        ensures is { result ≡ length self.now.patterns.now }
         ensures few { result ≤ 32 }
     {
-        if self.patterns.len() > PATTERNS {
-            32
-        } else {
-            self.patterns.len() as u8
-        }
+        self.patterns.len() as u8
     }
 
     // Whether the table has a pattern of that number and it fits the event.
     pub fn fits(&self, number: u8, event: A::Event) -> bool
-        ensures only { T result → FitsAt A.Alphabet.fits self.now.patterns.now number event }
-        ensures always { FitsAt A.Alphabet.fits self.now.patterns.now number event → T result }
-        ensures is { ForTests A.Alphabet.fits (λ test. result ≡ table_fits test self.now.patterns.now event number) }
+        ensures { IsFitAnswer A.Alphabet.fits self.now.patterns.now number event result }
     {
-        fits_at::<A>(self.patterns, number, event)
+        self.patterns
+            .get(number as usize)
+            .is_some_and(|pattern| A::fit(*pattern, event))
     }
 }

@@ -1,6 +1,8 @@
 -- The pieces of a text, its lines and its words, as lists.
 use Rattle.std.proofs.Common.{◌≡◌, ℕ, suc, ◌+◌, ◌-◌, ◌<◌, ◌≤◌, Bool, true, false, cond, ltb, List, [], ◌∷◌, ◌++◌, length, get_or, take, drop, sym, refl, ap, ◌∙◌, subst, inl, inr, ⊎_elim, append-nil, arith}
 use Rattle.std.proofs.lemmas.List.{take-append-drop, drop-drop, drop_all, drop_more, length-take-le, length-drop, get_or-take, get_or-drop}
+use Rattle.std.specs.List.{prefix_len}
+use Rattle.std.proofs.lemmas.List.Sums.{prefix_len-le-length, prefix_len_passes, prefix_len_stops}
 use Rattle.std.proofs.lemmas.Bool.{both_ways, cases_Bool, cases_lt, cond-true, cond-false, eq-eqb, ne_eqb, lt-ltb, le-ltb}
 use Rattle.grammar.specs.Lists.{those}
 use Rattle.grammar.proofs.Lists.{those_append}
@@ -108,6 +110,27 @@ pub stretch_all : (p : ℕ → Bool) (t : Bool) (xs : List ℕ) (from to : ℕ) 
 stretch_all p t xs from to h l each = all_places p t (stretch xs from to) (λ k m.
     let n = length_stretch xs from to h l in
     ap p (get_or-take (to - from) (drop from xs) k 0 (omega arith) ∙ get_or-drop from xs k 0) ∙ each (from + k) (omega arith) (omega arith))
+
+-- how many bytes at the front of a stretch pass a test, by place: those pass, and the next does not
+pub record Run (p : ℕ → Bool) (xs : List ℕ) (from to n : ℕ) : Type 0 where
+  pub within : from + n ≤ to
+  pub passed : (k : ℕ) → from ≤ k → k < from + n → p (get_or xs k 0) ≡ true
+  pub ended : from + n < to → p (get_or xs (from + n) 0) ≡ false
+
+pub run : (p : ℕ → Bool) (xs : List ℕ) (from to n : ℕ) → from ≤ to → to ≤ length xs → n ≡ prefix_len p (stretch xs from to) → Run p xs from to n
+run p xs from to n h l e =
+    let w = stretch xs from to in
+    let len = length_stretch xs from to h l in
+    record {
+      within = omega (arith, prefix_len-le-length p w);
+      passed = λ k a b.
+          let j : from + (k - from) ≡ k = omega arith in
+          ap (λ i. p (get_or xs i 0)) (sym j) ∙ sym (at (k - from) (omega (arith, prefix_len-le-length p w))) ∙ prefix_len_passes p w (k - from) 0 (omega arith);
+      ended = λ b. sym (at n (omega arith)) ∙ ap (λ i. p (get_or w i 0)) e ∙ prefix_len_stops p w 0 (omega arith);
+    }
+  where
+    at : (k : ℕ) → k < to - from → p (get_or (stretch xs from to) k 0) ≡ p (get_or xs (from + k) 0)
+    at k m = ap p (get_or-take (to - from) (drop from xs) k 0 m ∙ get_or-drop from xs k 0)
 
 -- no word begins before a place
 pub words_from : (xs : List ℕ) (from p : ℕ) → from ≤ p → p ≤ length xs → ((k : ℕ) → from ≤ k → k < p → parts (get_or xs k 0) ≡ true) → words from (drop from xs) ≡ words p (drop p xs)

@@ -50,7 +50,10 @@ impl fmt::Display for LineFault {
     fn fmt<W: fmt::Write>(&self, f: &mut fmt::Formatter<W>) -> fmt::Result {
         match self {
             LineFault::Unknown(at) => write!(f, "an unknown word at byte {at} (refusal 20)"),
-            LineFault::OverLimit(at) => write!(f, "a number over its limit at byte {at} (refusal 21)"),
+            LineFault::OverLimit(at) => write!(
+                f,
+                "a number over its limit at byte {at} (refusal 21)"
+            ),
             LineFault::OutOfPlace(at) => write!(f, "a word out of place at byte {at} (refusal 22)"),
             LineFault::TooShort(at) => write!(f, "a line too short at byte {at} (refusal 23)"),
         }

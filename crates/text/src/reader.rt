@@ -31,10 +31,7 @@ fn lettered_number(word: &[u8], at: usize, limit: u32) -> Result<u32, LineFault>
     requires { (0 < length word.now) × (all_digits (drop 1 word.now) ≡ true) }
     ensures { MatchResult result (λ n. (n ≡ decimal (drop 1 word.now)) × (n ≤ limit)) (λ f. (f ≡ LineFault.OverLimit at) × (limit < decimal (drop 1 word.now))) }
 {
-    match number(&word[1..], limit) {
-        Some(n) => Ok(n),
-        None => Err(LineFault::OverLimit(at)),
-    }
+    number(&word[1..], limit).ok_or(LineFault::OverLimit(at))
 }
 
 // The number that a word says, 0 of one without: an unknown word and one over its limit are refused.
@@ -55,29 +52,15 @@ fn number_of(token: Token<'_>) -> Result<u32, LineFault>
 fn next_stage(stage: Stage, token: Token<'_>) -> Option<Stage>
     ensures { result ≡ after stage token.entry }
 {
-    match token {
-        Token::Head(..) => match stage {
-            Stage::Start => Some(Stage::AfterHead),
-            Stage::AfterArrow | Stage::AfterItem => Some(Stage::AfterItem),
-            _ => None,
-        },
-        Token::Arrow(..) => match stage {
-            Stage::AfterHead => Some(Stage::AfterArrow),
-            _ => None,
-        },
-        Token::Blank(..) => match stage {
-            Stage::AfterArrow => Some(Stage::AfterBlank),
-            _ => None,
-        },
-        Token::Pattern(..) => match stage {
-            Stage::AfterArrow | Stage::AfterItem => Some(Stage::AfterItem),
-            _ => None,
-        },
-        Token::Cost(..) => match stage {
-            Stage::AfterItem | Stage::AfterBlank => Some(Stage::AfterCost),
-            _ => None,
-        },
-        Token::Unknown(..) => None,
+    match (stage, token) {
+        (Stage::Start, Token::Head(..)) => Some(Stage::AfterHead),
+        (Stage::AfterHead, Token::Arrow(..)) => Some(Stage::AfterArrow),
+        (Stage::AfterArrow, Token::Blank(..)) => Some(Stage::AfterBlank),
+        (Stage::AfterArrow | Stage::AfterItem, Token::Head(..) | Token::Pattern(..)) => {
+            Some(Stage::AfterItem)
+        }
+        (Stage::AfterItem | Stage::AfterBlank, Token::Cost(..)) => Some(Stage::AfterCost),
+        _ => None,
     }
 }
 
@@ -86,14 +69,12 @@ fn with_word(was: Reading, token: Token<'_>, n: u32) -> RuleLine
     requires { n ≤ limit_of token }
     ensures { said_of result ≡ with_word was.stage (said_of was.line) token.entry n }
 {
-    match token {
-        Token::Head(..) => match was.stage {
-            Stage::Start => was.line.with_head(n as u8),
-            _ => was.line.with_item(n as u8),
-        },
-        Token::Pattern(..) => was.line.with_item(32 + n as u8),
-        Token::Cost(..) => was.line.with_cost(n as u16),
-        Token::Arrow(..) | Token::Blank(..) | Token::Unknown(..) => was.line,
+    match (was.stage, token) {
+        (Stage::Start, Token::Head(..)) => was.line.with_head(n as u8),
+        (_, Token::Head(..)) => was.line.with_item(n as u8),
+        (_, Token::Pattern(..)) => was.line.with_item(32 + n as u8),
+        (_, Token::Cost(..)) => was.line.with_cost(n as u16),
+        (_, Token::Arrow(..) | Token::Blank(..) | Token::Unknown(..)) => was.line,
     }
 }
 

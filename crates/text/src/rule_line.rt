@@ -1,6 +1,7 @@
 ghost use Rattle.std.specs.Prelude.{◌≡◌, ℕ, ◌<◌, ◌≤◌, [], ◌∷◌, ◌++◌, length, take, slice_index};
 
 // A rule as a line says it: head h is h, pattern t is 32 + t. Nine items stand for nine or more.
+// The items are an array with a length, since the kit's vector of fixed capacity is not Copy and a rule line is.
 #[derive(Clone, Copy)]
 pub struct RuleLine {
     head: u8,
@@ -48,6 +49,7 @@ impl RuleLine {
         self.cost
     }
 
+    // Another head. The toolchain refuses `RuleLine { head, ..self }` where a struct has ghost fields; so in with_cost.
     pub(crate) fn with_head(self, head: u8) -> RuleLine
         requires { head ≤ 31 }
         ensures head { result.head ≡ head }

@@ -1,6 +1,7 @@
-ghost use Rattle.std.specs.Prelude.{◌≡◌, ℕ, ◌+◌, ◌-◌, ◌<◌, ◌≤◌, true, false, [], ◌∷◌, length, drop, MatchOption, slice_index};
+ghost use Rattle.std.specs.Prelude.{◌≡◌, ℕ, ◌+◌, ◌-◌, ◌<◌, ◌≤◌, true, false, not, [], ◌∷◌, length, drop, MatchOption, slice_index};
+ghost use Rattle.std.specs.List.{prefix_len};
 ghost use Rattle.std.specs.Iterator.{at_most};
-ghost use Rattle.text.specs.Words.{parts, piece, words, IsWord, IsLineEnd};
+ghost use Rattle.text.specs.Words.{ends_line, parts, piece, words, IsWord, IsLineEnd};
 ghost use Rattle.text.specs.Turns.{NextOfWords};
 
 // A word and its byte place in the text.
@@ -50,16 +51,33 @@ fn is_gap(b: u8) -> bool
     b == b' ' || b == b'\n'
 }
 
+// How many bytes at the front end no line.
+fn line_len(bytes: &[u8]) -> usize
+    ensures { result ≡ prefix_len (λ b. not (ends_line b)) bytes.now }
+{
+    bytes.iter().take_while(|b| **b != b'\n').count()
+}
+
+// How many bytes at the front part words.
+fn gap_len(bytes: &[u8]) -> usize
+    ensures { result ≡ prefix_len parts bytes.now }
+{
+    bytes.iter().take_while(|b| is_gap(**b)).count()
+}
+
+// How many bytes at the front part no words.
+fn word_len(bytes: &[u8]) -> usize
+    ensures { result ≡ prefix_len (λ b. not (parts b)) bytes.now }
+{
+    bytes.iter().take_while(|b| !is_gap(**b)).count()
+}
+
 // Where the line that holds a place ends: its line feed, or the end of the text.
 pub fn line_end(text: &[u8], from: usize) -> usize
     ensures { IsLineEnd text.now from result }
 {
-    for i in from..text.len() {
-        if text[i] == b'\n' {
-            return i;
-        }
-    }
-    text.len()
+    let from = from.min(text.len());
+    from + line_len(&text[from..])
 }
 
 // The first place of from..end whose byte parts no words, or the end.
@@ -69,12 +87,7 @@ fn word_start(text: &[u8], from: usize, end: usize) -> usize
     ensures before { (k : ℕ) → from ≤ k → k < result → parts (slice_index text.now k) ≡ true }
     ensures found { result < end → parts (slice_index text.now result) ≡ false }
 {
-    for i in from..end {
-        if !is_gap(text[i]) {
-            return i;
-        }
-    }
-    end
+    from + gap_len(&text[from..end])
 }
 
 // The first place from a place on whose byte parts words, or the end of the text.
@@ -84,12 +97,7 @@ fn word_end(text: &[u8], from: usize) -> usize
     ensures before { (k : ℕ) → from ≤ k → k < result → parts (slice_index text.now k) ≡ false }
     ensures found { result < length text.now → parts (slice_index text.now result) ≡ true }
 {
-    for i in from..text.len() {
-        if is_gap(text[i]) {
-            return i;
-        }
-    }
-    text.len()
+    from + word_len(&text[from..])
 }
 
 // The next word that begins in from..end.

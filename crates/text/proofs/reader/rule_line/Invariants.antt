@@ -9,5 +9,5 @@ abbrev pub invariant-loop-word : goal.invariant-loop-word
 invariant-loop-word l = record {
   text : l.word-iterator.text.now ≡ l.text;
   end : l.word-iterator.end ≡ l.end;
-  rest : (r : Result (Option Said) LineFault) → Reads l.text l.end l.word-iterator.from l.reading.stage (said_of l.reading.line) r → Reads l.text l.end l.from Start bare_said r
+  rest : (r : Result (Option Said) LineFault) → Reads l.text l.end l.word-iterator.from l.reading.stage (said_of l.reading.line) r → Reads l.text l.end l.from Start bare_said r;
 }

@@ -1,5 +1,4 @@
-use Rattle.std.proofs.Common.{refl, ap, ◌∙◌, arith}
-use Rattle.book.specs.Fits.{pattern_count}
+use Rattle.std.proofs.Common.{length, refl, ap, ◌∙◌, arith}
 use Rattle.book.specs.Loads.{load}
 use Rattle.book.specs.Rules.{held}
 use Rattle.book.proofs.Loading.{load_means}
@@ -10,12 +9,12 @@ pub returns : goal.returns
 returns g c =
     let b = c.args.self.now in
     let text = c.args.text.now in
-    let T = pattern_count b.table.patterns.now in
+    let T = length b.table.patterns.now in
     let is = c.load.ensures.is ∙ ap (λ T. load T (held b.rules) text) b.over in
     record {
       says = c.load.ensures.says;
       is = is;
-      means = load_means T (held b.rules) text (omega arith);
+      means = load_means T (held b.rules) text (omega (arith, b.table.few));
       table = refl;
       runs = load_runs T text (held b.rules) (held c.load.new.self) c.load.result is;
     }

@@ -1,8 +1,7 @@
-use Rattle.std.proofs.Common.{◌≡◌, ℕ, List, Result, refl, subst, arith}
+use Rattle.std.proofs.Common.{length, ◌≡◌, ℕ, List, Result, refl, subst, arith}
 use Rattle.conversion.specs.Rows.{written}
 use Rattle.book.specs.declared.fault.OfferFault.{OfferFault}
 use Rattle.book.specs.declared.rules.Rules.{Rules}
-use Rattle.book.specs.Fits.{pattern_count}
 use Rattle.book.specs.Rules.{held}
 use Rattle.book.specs.Offers.{Offered}
 use Rattle.book.proofs.Running.{offer_runs}
@@ -17,7 +16,7 @@ given head items c d T S was is r h e f =
 pub returns : goal.returns
 returns g c =
     let b = c.args.self.now in
-    let T = pattern_count b.table.patterns.now in
+    let T = length b.table.patterns.now in
     let says = given c.args.head c.args.items.now _ c.args.cost _ T b.rules c.offer.new.self c.offer.result c.offer.ensures.says (omega arith) b.over in
     record {
       says = says;

@@ -1,5 +1,4 @@
-use Rattle.std.proofs.Common.{refl}
-use Rattle.book.specs.Fits.{pattern_count}
+use Rattle.std.proofs.Common.{length, refl}
 use Rattle.book.proofs.Running.{strike_runs}
 use Rattle.book.proofs.books.OpenBook.strike.Goals as goal
 
@@ -10,5 +9,5 @@ returns g c =
     record {
       says = says;
       table = refl {a = b.table};
-      runs = strike_runs (pattern_count b.table.patterns.now) b.rules c.strike.new.self c.strike.result says;
+      runs = strike_runs (length b.table.patterns.now) b.rules c.strike.new.self c.strike.result says;
     }
