@@ -1,14 +1,34 @@
-// A book is loaded, and a trace fed to a chart of it in each weighing.
-use crate::case::Case;
-use crate::feeds::{Timed, count, least, yes_no};
-use anyhow::anyhow;
+// A book is loaded, and the totals of a trace are worked out in each weighing.
+use anyhow::Context;
 use book::alphabet::Bytes;
-use book::books::OpenBook;
-use book::table::PatternTable;
-use std::fs;
+use cases::books::loaded;
+use chart::fault::FeedFault;
+use programs::patterns::PATTERNS;
+use programs::totals::{Tables, Verdict, room};
+use std::fmt::Display;
+use std::time::{Duration, Instant};
+use std::{fmt, fs};
 
-// The patterns: as many of these as a case has.
-static LETTERS: [u8; 26] = *b"abcdefghijklmnopqrstuvwxyz";
+// What is measured: a file of rule text, the number of patterns, and the events, as letters.
+#[derive(Clone, Copy)]
+pub struct Case<'t> {
+    pub book: &'t str,
+    pub patterns: usize,
+    pub trace: &'t str,
+}
+
+// A total, and the time spent in the feeds and on it.
+#[derive(Clone, Copy)]
+pub struct Timed<T> {
+    pub spent: Duration,
+    pub total: T,
+}
+
+impl<T: Display> Display for Timed<T> {
+    fn fmt<W: fmt::Write>(&self, f: &mut fmt::Formatter<W>) -> fmt::Result {
+        write!(f, "{:.4} s {}", self.spent.as_secs_f64(), self.total)
+    }
+}
 
 // What was measured.
 #[derive(Clone, Copy)]
@@ -16,32 +36,53 @@ pub struct Figures {
     pub symbols: usize,
     pub strict_rules: usize,
     pub events: usize,
-    pub yes_no: Timed<bool>,
+    pub yes_no: Timed<Verdict>,
     pub count: Timed<u32>,
     pub least: Timed<u32>,
 }
 
+impl Display for Figures {
+    fn fmt<W: fmt::Write>(&self, f: &mut fmt::Formatter<W>) -> fmt::Result {
+        writeln!(
+            f,
+            "symbols {} strict {} events {}",
+            self.symbols, self.strict_rules, self.events
+        )?;
+        writeln!(f, "yes/no {}", self.yes_no)?;
+        writeln!(f, "count {}", self.count)?;
+        writeln!(f, "least cost {}", self.least)
+    }
+}
+
+// A total, with the time that it takes.
+fn time<T: Drop, F: FnOnce() -> Result<T, FeedFault>>(
+    rt: &HostRuntime,
+    total: F,
+) -> anyhow::Result<Timed<T>>
+    requires { F.IsAlwaysCallable total }
+{
+    let start = Instant::now(rt)?;
+    let total = total().ok().context("an event is refused")?;
+    let spent = start.elapsed(rt)?;
+    Ok(Timed { spent, total })
+}
+
 // Loads the book of a case and feeds its trace in each weighing.
 pub(crate) fn measure(rt: &HostRuntime, case: &Case) -> anyhow::Result<Figures> {
-    let text = fs::read_to_string(rt, case.book)?;
-    let Some(patterns) = LETTERS.get(0..case.patterns) else {
-        return Err(anyhow!("more than 26 patterns"));
-    };
-    let Ok(table) = PatternTable::<Bytes>::check(patterns) else {
-        return Err(anyhow!("the table is refused"));
-    };
-    let mut book = OpenBook::new(table);
-    if book.load(text.as_bytes()).is_err() {
-        return Err(anyhow!("the rules are refused"));
-    }
-    let closed = book.close();
+    let text = fs::read(rt, case.book)?;
+    let patterns = PATTERNS
+        .get(..case.patterns)
+        .context("more than 32 patterns")?;
+    let book = loaded::<Bytes>(patterns, &text)?.close();
     let trace = case.trace.as_bytes();
+    let weights = room(&book, trace.len()).context("more than 256 events")?;
+    let mut tables = Tables::new(rt.alloc(), weights)?;
     Ok(Figures {
-        symbols: closed.symbols(),
-        strict_rules: closed.strict_count(),
+        symbols: book.symbols(),
+        strict_rules: book.strict_count(),
         events: trace.len(),
-        yes_no: yes_no(rt, &closed, trace)?,
-        count: count(rt, &closed, trace)?,
-        least: least(rt, &closed, trace)?,
+        yes_no: time(rt, || tables.verdict(&book, trace))?,
+        count: time(rt, || tables.count(&book, trace))?,
+        least: time(rt, || tables.least(&book, trace))?,
     })
 }

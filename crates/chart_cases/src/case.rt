@@ -1,7 +1,5 @@
 // The cases over bytes.
-use anyhow::anyhow;
 use std::alloc::{AllocError, Global};
-use std::mem;
 
 // A case: the names of its heads, its patterns, its rules, and the traces to print tables and totals of.
 #[derive(Drop)]
@@ -14,22 +12,21 @@ pub struct Case<'t> {
     pub totals: Vec<&'t str>,
 }
 
-// One line more at the end of a text.
-pub(crate) fn push_line(text: &mut String, line: &str) -> Result<(), AllocError> {
-    text.push_str(line)?;
-    text.push_str("\n")
-}
-
 impl<'t> Case<'t> {
-    fn new(heap: Global) -> Case<'t> {
-        Case {
+    // The case of these lines.
+    pub(crate) fn of(heap: Global, lines: &[&'t str]) -> Result<Case<'t>, AllocError> {
+        let mut case = Case {
             name: "",
             heads: Vec::new(heap),
             patterns: "",
             rules: String::new(heap),
             tables: Vec::new(heap),
             totals: Vec::new(heap),
+        };
+        for line in lines {
+            case.read(heap, line)?;
         }
+        Ok(case)
     }
 
     // Takes in a line of the case.
@@ -40,38 +37,13 @@ impl<'t> Case<'t> {
             self.heads = names.split(' ').collect(heap)?;
         } else if let Some(patterns) = line.strip_prefix("patterns ") {
             self.patterns = patterns;
-        } else {
-            self.ask(line)?;
-        }
-        Ok(())
-    }
-
-    // Takes in a trace to print of, or a rule.
-    fn ask(&mut self, line: &'t str) -> Result<(), AllocError> {
-        if let Some(trace) = line.strip_prefix("table ") {
+        } else if let Some(trace) = line.strip_prefix("table ") {
             self.tables.push(trace)?;
         } else if let Some(trace) = line.strip_prefix("totals ") {
             self.totals.push(trace)?;
         } else {
-            push_line(&mut self.rules, line)?;
+            writeln!(self.rules, "{line}")?;
         }
         Ok(())
     }
-}
-
-// The cases of a text.
-pub(crate) fn cases(heap: Global, text: &str) -> anyhow::Result<Vec<Case<'_>>> {
-    let mut list = Vec::new(heap);
-    let mut case = Case::new(heap);
-    for line in text.lines() {
-        if line == "end" {
-            list.push(mem::replace(&mut case, Case::new(heap)))?;
-        } else {
-            case.read(heap, line)?;
-        }
-    }
-    if !case.name.is_empty() {
-        return Err(anyhow!("the last case has no end"));
-    }
-    Ok(list)
 }

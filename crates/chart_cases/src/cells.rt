@@ -4,12 +4,15 @@ ghost use Rattle.chart.specs.Table.{cell_place};
 
 use std::alloc::{AllocError, Global};
 
-// A filled table of yes and no: its weights, the number of symbols and the number of events held.
+// A filled table of yes and no: the names of the heads, its weights, the number of symbols and the number of events held.
 #[derive(Clone, Copy)]
 pub struct Filled<'t> {
-    pub weights: &'t [bool],
-    pub symbols: usize,
-    pub events: usize,
+    heads: &'t [&'t str],
+    weights: &'t [bool],
+    symbols: usize,
+    events: usize,
+    ghost few_symbols: { symbols ≤ 128 },
+    ghost few_events: { events ≤ 256 },
 }
 
 // Where the cell of a start stands in the column of an event.
@@ -20,54 +23,58 @@ fn cell_place(symbols: usize, event: usize, start: usize) -> usize
     event * (event - 1) / 2 * symbols + start * symbols
 }
 
-// The names of the heads that a cell has, or - for none.
-fn cell_text(
-    heap: Global,
-    heads: &[&str],
-    weights: &[bool],
-    place: usize,
-) -> Result<String, AllocError> {
-    let mut out = String::new(heap);
-    for (name, yes) in heads.iter().zip(weights.iter().skip(place)) {
-        if *yes {
-            if !out.is_empty() {
-                out.push_str(" ")?;
-            }
-            out.push_str(name)?;
+impl<'t> Filled<'t> {
+    // The table of a book of so many symbols.
+    pub(crate) fn new(
+        heads: &'t [&'t str],
+        weights: &'t [bool],
+        symbols: usize,
+        events: usize,
+    ) -> Filled<'t>
+        requires { (symbols ≤ 128) × (events ≤ 256) }
+    {
+        Filled {
+            heads,
+            weights,
+            symbols,
+            events,
         }
     }
-    if out.is_empty() {
-        out.push_str("-")?;
-    }
-    Ok(out)
-}
 
-// The line of the cells over so many events, by start.
-fn length_line(
-    heap: Global,
-    heads: &[&str],
-    table: Filled,
-    length: usize,
-) -> Result<String, AllocError>
-    requires { (table.symbols ≤ 128) × ((table.events ≤ 256) × ((0 < length) × (length ≤ table.events))) }
-{
-    let mut out = format!(in heap; "    length {length}:")?;
-    for start in 0..table.events - length + 1 {
-        let place = cell_place(table.symbols, start + length, start);
-        out.push_str(if start == 0 { " " } else { " | " })?;
-        out.push_str(cell_text(heap, heads, table.weights, place)?.as_str())?;
+    // The names of the heads that the cell in a place has, or - for none.
+    fn cell_text(&self, heap: Global, place: usize) -> Result<String, AllocError> {
+        let names: Vec<&str> = self
+            .heads
+            .iter()
+            .zip(self.weights.iter().skip(place))
+            .filter(|(_, yes)| **yes)
+            .map(|(name, _)| *name)
+            .collect(heap)?;
+        if names.is_empty() {
+            return String::from_str(heap, "-");
+        }
+        names.join(heap, " ")
     }
-    out.push_str("\n")?;
-    Ok(out)
-}
 
-// The lines of a table, by length.
-pub(crate) fn table_lines(heap: Global, heads: &[&str], table: Filled) -> Result<String, AllocError>
-    requires { (table.symbols ≤ 128) × (table.events ≤ 256) }
-{
-    let mut out = String::new(heap);
-    for length in 1..=table.events {
-        out.push_str(length_line(heap, heads, table, length)?.as_str())?;
+    // The line of the cells over so many events, by start.
+    fn length_line(&self, heap: Global, length: usize) -> Result<String, AllocError>
+        requires { (0 < length) × (length ≤ self.now.events) }
+    {
+        let mut out = format!(in heap; "    length {length}:")?;
+        for start in 0..self.events - length + 1 {
+            let place = cell_place(self.symbols, start + length, start);
+            let separator = if start == 0 { " " } else { " | " };
+            write!(out, "{separator}{}", self.cell_text(heap, place)?)?;
+        }
+        Ok(out)
     }
-    Ok(out)
+
+    // The lines of the table, by length.
+    pub(crate) fn lines(&self, heap: Global) -> Result<String, AllocError> {
+        let mut out = String::new(heap);
+        for length in 1..=self.events {
+            writeln!(out, "{}", self.length_line(heap, length)?)?;
+        }
+        Ok(out)
+    }
 }

@@ -1,12 +1,13 @@
 // What is printed of a case over bytes.
 use crate::case::Case;
-use crate::cells::{Filled, table_lines};
-use crate::totals::{feed_all, room, totals_line};
-use anyhow::anyhow;
+use crate::cells::Filled;
+use crate::totals::totals_line;
+use anyhow::Context;
 use book::alphabet::Bytes;
-use book::books::{ClosedBook, OpenBook};
-use book::table::PatternTable;
+use book::books::ClosedBook;
+use cases::books::loaded;
 use chart::chart::Chart;
+use programs::totals::{feed_all, room};
 use std::alloc::Global;
 use weighing::kinds::YesNo;
 
@@ -17,54 +18,26 @@ fn table(
     heads: &[&str],
     trace: &str,
 ) -> anyhow::Result<String> {
-    let events = trace.len();
-    if events > 256 {
-        return Err(anyhow!("a trace is too long"));
-    }
-    let symbols = book.symbols();
-    let mut weights = vec![in heap; false; room(symbols, events)]?;
-    let mut chart: Chart<Bytes, YesNo> = Chart::cut(book, weights.as_mut_slice());
-    feed_all::<Bytes, YesNo>(&mut chart, trace.as_bytes())?;
-    let filled = Filled {
-        weights: weights.as_slice(),
-        symbols,
-        events,
-    };
-    let lines = table_lines(heap, heads, filled)?;
-    Ok(format!(in heap; "  table of {trace}\n{lines}")?)
-}
-
-// The tables of a case.
-fn tables(heap: Global, book: &ClosedBook<Bytes>, case: &Case) -> anyhow::Result<String> {
-    let mut out = String::new(heap);
-    for trace in case.tables.as_slice() {
-        out.push_str(table(heap, book, case.heads.as_slice(), trace)?.as_str())?;
-    }
-    Ok(out)
-}
-
-// The totals of a case.
-fn totals(heap: Global, book: &ClosedBook<Bytes>, case: &Case) -> anyhow::Result<String> {
-    let mut out = String::new(heap);
-    for trace in case.totals.as_slice() {
-        let line = totals_line::<Bytes>(heap, book, trace, trace.as_bytes())?;
-        out.push_str(line.as_str())?;
-    }
-    Ok(out)
+    let places = room(book, trace.len()).context("a trace is too long")?;
+    let mut weights = vec![in heap; false; places]?;
+    let mut chart: Chart<Bytes, YesNo> = Chart::cut(book, &mut weights);
+    feed_all(&mut chart, trace.as_bytes())
+        .ok()
+        .context("a table is too short")?;
+    Ok(Filled::new(heads, &weights, book.symbols(), trace.len()).lines(heap)?)
 }
 
 // The lines of a case.
 pub(crate) fn case_lines(heap: Global, case: &Case) -> anyhow::Result<String> {
-    let Ok(patterns) = PatternTable::<Bytes>::check(case.patterns.as_bytes()) else {
-        return Err(anyhow!("a table is refused"));
-    };
-    let mut book = OpenBook::new(patterns);
-    if book.load(case.rules.as_bytes()).is_err() {
-        return Err(anyhow!("a rule is refused"));
+    let book = loaded::<Bytes>(case.patterns.as_bytes(), case.rules.as_bytes())?.close();
+    let mut out = format!(in heap; "{}\n", case.name)?;
+    for trace in &case.tables {
+        let lines = table(heap, &book, &case.heads, trace)?;
+        write!(out, "  table of {trace}\n{lines}")?;
     }
-    let closed = book.close();
-    let tables = tables(heap, &closed, case)?;
-    let totals = totals(heap, &closed, case)?;
-    let name = case.name;
-    Ok(format!(in heap; "{name}\n{tables}{totals}")?)
+    for trace in &case.totals {
+        let line = totals_line::<Bytes>(heap, &book, trace, trace.as_bytes())?;
+        out.push_str(&line)?;
+    }
+    Ok(out)
 }

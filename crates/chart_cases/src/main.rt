@@ -18,16 +18,18 @@ mod grammars;
 mod totals;
 
 use cards::card_lines;
-use case::cases;
+use case::Case;
+use cases::blocks::blocks;
 use grammars::case_lines;
 use std::fs;
 
 // Prints each case of bytes.
 fn print_grammars(rt: &HostRuntime) -> anyhow::Result<()> {
+    let heap = rt.alloc();
     let text = fs::read_to_string(rt, "grammars.txt")?;
-    let list = cases(rt.alloc(), text.as_str())?;
-    for case in list.as_slice() {
-        rt.print(case_lines(rt.alloc(), case)?)?;
+    let lines: Vec<&str> = text.lines().collect(heap)?;
+    for block in blocks(heap, &lines)? {
+        rt.print(case_lines(heap, &Case::of(heap, block)?)?)?;
     }
     Ok(())
 }
@@ -35,15 +37,11 @@ fn print_grammars(rt: &HostRuntime) -> anyhow::Result<()> {
 // Prints the case of card events.
 fn print_cards(rt: &HostRuntime) -> anyhow::Result<()> {
     let text = fs::read_to_string(rt, "cards.txt")?;
-    rt.print(card_lines(rt.alloc(), text.as_str())?)?;
+    rt.print(card_lines(rt.alloc(), &text)?)?;
     Ok(())
 }
 
-fn run(rt: &HostRuntime) -> anyhow::Result<()> {
-    print_grammars(rt)?;
-    print_cards(rt)
-}
-
 fn main(rt: HostRuntime) -> anyhow::Result<()> {
-    run(&rt)
+    print_grammars(&rt)?;
+    print_cards(&rt)
 }

@@ -1,7 +1,5 @@
 // The two parts of the line program's input.
-ghost use Rattle.std.specs.Prelude.{◌≤◌, length};
-
-use text::words::line_end;
+use text::lines::Lines;
 
 // Rule text, and traces one to a line.
 #[derive(Clone, Copy)]
@@ -12,20 +10,14 @@ pub struct Parts<'i> {
 
 // The input before and after its first line that is % alone; without such a line all of it is rule text.
 pub(crate) fn divide(input: &[u8]) -> Parts<'_> {
-    let mut from = 0;
-    while from < input.len() {
-        let end = line_end(input, from);
-        if end == from + 1 && input[from] == b'%' {
-            let after = if end < input.len() { end + 1 } else { end };
-            return Parts {
-                rules: &input[0..from],
-                traces: &input[after..],
-            };
-        }
-        from = end + 1;
-    }
-    Parts {
-        rules: input,
-        traces: &[],
+    match Lines::of(input).find(|line| line.bytes() == b"%".as_slice()) {
+        Some(line) => Parts {
+            rules: &line.text[..line.from],
+            traces: input.get(line.text.len() + 1..).unwrap_or(&[]),
+        },
+        None => Parts {
+            rules: input,
+            traces: &[],
+        },
     }
 }

@@ -3,5 +3,6 @@
 
 mod divide;
 pub mod line;
+pub mod patterns;
 pub mod rule_text;
-mod traces;
+pub mod totals;

@@ -2,38 +2,34 @@
 ghost use Rattle.std.specs.Prelude.{◌≡◌, ◌<◌, length, IfOk, string_bytes, codes};
 
 use crate::divide::{Parts, divide};
-use crate::traces::Tables;
+use crate::patterns::PATTERNS;
+use crate::totals::Tables;
 use book::alphabet::Bytes;
 use book::books::{ClosedBook, OpenBook};
 use book::table::PatternTable;
 use std::alloc::{AllocError, Global};
-use text::words::line_end;
+use text::lines::Lines;
 
 // The longest input that is read.
 pub const LIMIT: usize = 32_768;
 
 // The patterns: the small letters.
-static LETTERS: [u8; 26] = *b"abcdefghijklmnopqrstuvwxyz";
+const LETTERS: usize = 26;
+
+// The number of weights of each table.
+const WEIGHTS: usize = 15_360;
 
 // The line for one trace.
-fn trace_line(
-    heap: Global,
+fn push_line(
+    out: &mut String,
     book: &ClosedBook<Bytes>,
     tables: &mut Tables,
     trace: &[u8],
-) -> Result<String, AllocError> {
+) -> Result<(), AllocError> {
     let length = trace.len();
     match tables.totals(book, trace) {
-        Ok(totals) => {
-            let verdict = if totals.verdict { "yes" } else { "no" };
-            let count = totals.count;
-            let least = totals.least;
-            format!(in heap; "{length} {verdict} {count} {least}\n")
-        }
-        Err(fault) => {
-            let number = fault.number();
-            format!(in heap; "{length} refused {number}\n")
-        }
+        Ok(totals) => writeln!(out, "{length} {totals}"),
+        Err(fault) => writeln!(out, "{length} refused {}", fault.number()),
     }
 }
 
@@ -44,13 +40,9 @@ fn trace_lines(
     traces: &[u8],
 ) -> Result<String, AllocError> {
     let mut out = String::new(heap);
-    let mut tables = Tables::new(heap)?;
-    let mut from = 0;
-    while from < traces.len() {
-        let end = line_end(traces, from);
-        let line = trace_line(heap, book, &mut tables, &traces[from..end])?;
-        out.push_str(line.as_str())?;
-        from = end + 1;
+    let mut tables = Tables::new(heap, WEIGHTS)?;
+    for line in Lines::of(traces) {
+        push_line(&mut out, book, &mut tables, line.bytes())?;
     }
     Ok(out)
 }
@@ -58,9 +50,7 @@ fn trace_lines(
 // The output for a book that was loaded.
 fn loaded(heap: Global, mut book: OpenBook<Bytes>, parts: Parts) -> Result<String, AllocError> {
     if let Err(fault) = book.load(parts.rules) {
-        let number = fault.number();
-        let place = fault.place();
-        return format!(in heap; "refused {number} {place}\n");
+        return format!(in heap; "refused {} {}\n", fault.number(), fault.place());
     }
     let closed = book.close();
     trace_lines(heap, &closed, parts.traces)
@@ -73,7 +63,7 @@ pub fn line(heap: Global, input: &[u8]) -> Result<String, AllocError>
     if input.len() > LIMIT {
         return format!(in heap; "refused 25\n");
     }
-    match PatternTable::check(&LETTERS) {
+    match PatternTable::check(&PATTERNS[..LETTERS]) {
         Ok(table) => loaded(heap, OpenBook::new(table), divide(input)),
         Err(_) => unreachable(),
     }

@@ -1,7 +1,6 @@
 // The stored cases.
-use anyhow::anyhow;
-use std::alloc::{AllocError, Global};
-use std::mem;
+use std::alloc::Global;
+use std::fmt;
 
 // A case: its number of patterns, the rules to load, the rules to offer after them, and the lines that are expected.
 #[derive(Drop)]
@@ -13,21 +12,26 @@ pub struct Case<'t> {
     pub expected: String,
 }
 
-// One line more at the end of a text.
-fn push_line(text: &mut String, line: &str) -> Result<(), AllocError> {
-    text.push_str(line)?;
-    text.push_str("\n")
+impl fmt::Display for Case<'_> {
+    fn fmt<W: fmt::Write>(&self, f: &mut fmt::Formatter<W>) -> fmt::Result {
+        write!(f, "{}", self.name)
+    }
 }
 
 impl<'t> Case<'t> {
-    fn new(heap: Global) -> Case<'t> {
-        Case {
+    // The case of these lines.
+    pub(crate) fn of(heap: Global, lines: &[&'t str]) -> anyhow::Result<Case<'t>> {
+        let mut case = Case {
             name: "",
             patterns: 0,
             rules: String::new(heap),
             offers: Vec::new(heap),
             expected: String::new(heap),
+        };
+        for line in lines {
+            case.read(line)?;
         }
+        Ok(case)
     }
 
     // Takes in a line of the case.
@@ -37,7 +41,7 @@ impl<'t> Case<'t> {
         } else if let Some(count) = line.strip_prefix("patterns ") {
             self.patterns = count.parse::<usize>()?;
         } else if line.starts_with("H") {
-            push_line(&mut self.rules, line)?;
+            writeln!(self.rules, "{line}")?;
         } else {
             self.expect(line)?;
         }
@@ -45,29 +49,13 @@ impl<'t> Case<'t> {
     }
 
     // Takes in a line that is expected, with the rule to offer where it says that one is refused.
-    fn expect(&mut self, line: &'t str) -> Result<(), AllocError> {
+    fn expect(&mut self, line: &'t str) -> anyhow::Result<()> {
         if let Some(refusal) = line.strip_prefix("refused ")
             && let Some((_, rule)) = refusal.split_once(' ')
         {
             self.offers.push(rule)?;
         }
-        push_line(&mut self.expected, line)
+        writeln!(self.expected, "{line}")?;
+        Ok(())
     }
-}
-
-// The cases of a text.
-pub(crate) fn cases(heap: Global, text: &str) -> anyhow::Result<Vec<Case<'_>>> {
-    let mut list = Vec::new(heap);
-    let mut case = Case::new(heap);
-    for line in text.lines() {
-        if line == "end" {
-            list.push(mem::replace(&mut case, Case::new(heap)))?;
-        } else {
-            case.read(line)?;
-        }
-    }
-    if !case.name.is_empty() {
-        return Err(anyhow!("the last case has no end"));
-    }
-    Ok(list)
 }

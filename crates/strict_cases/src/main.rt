@@ -15,38 +15,26 @@ mod case;
 mod form;
 mod outcome;
 
-ghost use Rattle.std.specs.Prelude.{◌≤◌, length, IfOk};
-
-use case::{Case, cases};
+use case::Case;
+use cases::agreement::run_cases;
+use cases::blocks::blocks;
 use outcome::agrees;
+use std::alloc::Global;
 use std::fs;
 
-// The number of cases that agree; the name of each other is printed.
-fn agreeing(rt: &HostRuntime, cases: &[Case]) -> anyhow::Result<usize>
-    ensures { IfOk result (λ n. n ≤ length cases.now) }
-{
-    let mut agreed = 0;
-    for case in cases {
-        if agrees(rt.alloc(), case)? {
-            agreed += 1;
-        } else {
-            let name = case.name;
-            println!(rt; "{name} differs")?;
-        }
+// The cases of these lines.
+fn stored<'t>(heap: Global, lines: &'t [&'t str]) -> anyhow::Result<Vec<Case<'t>>> {
+    let mut list = Vec::new(heap);
+    for block in blocks(heap, lines)? {
+        list.push(Case::of(heap, block)?)?;
     }
-    Ok(agreed)
-}
-
-// Runs each case once.
-fn run(rt: &HostRuntime) -> anyhow::Result<()> {
-    let text = fs::read_to_string(rt, "cases.txt")?;
-    let list = cases(rt.alloc(), text.as_str())?;
-    let count = list.len();
-    let agreed = agreeing(rt, list.as_slice())?;
-    println!(rt; "{count} cases run, {agreed} agree")?;
-    Ok(())
+    Ok(list)
 }
 
 fn main(rt: HostRuntime) -> anyhow::Result<()> {
-    run(&rt)
+    let text = fs::read_to_string(&rt, "cases.txt")?;
+    let lines: Vec<&str> = text.lines().collect(rt.alloc())?;
+    let list = stored(rt.alloc(), &lines)?;
+    run_cases(&rt, &list, |case| agrees(rt.alloc(), case))?;
+    Ok(())
 }

@@ -11,9 +11,8 @@
 
 mod order;
 
-ghost use Rattle.std.specs.Prelude.{◌≤◌, length, IfOk};
-
-use anyhow::anyhow;
+use anyhow::ensure;
+use cases::agreement::run_cases;
 use order::ascending;
 use programs::line::line;
 use std::fs;
@@ -23,38 +22,14 @@ fn agrees(rt: &HostRuntime, name: &str) -> anyhow::Result<bool> {
     let heap = rt.alloc();
     let input = fs::read(rt, format!(in heap; "{name}.in")?)?;
     let expected = fs::read(rt, format!(in heap; "{name}.out")?)?;
-    let out = line(heap, input.as_slice())?;
+    let out = line(heap, &input)?;
     Ok(out.as_bytes() == expected.as_slice())
 }
 
-// The number of cases that agree; the name of each other is printed.
-fn agreeing(rt: &HostRuntime, names: &[&str]) -> anyhow::Result<usize>
-    ensures { IfOk result (λ n. n ≤ length names.now) }
-{
-    let mut agreed = 0;
-    for name in names {
-        if agrees(rt, name)? {
-            agreed += 1;
-        } else {
-            println!(rt; "{name} differs")?;
-        }
-    }
-    Ok(agreed)
-}
-
-// Runs each case of the list once.
-fn run(rt: &HostRuntime) -> anyhow::Result<()> {
-    let list = fs::read_to_string(rt, "cases.txt")?;
-    let names: Vec<&str> = list.lines().collect(rt.alloc())?;
-    if !ascending(names.as_slice()) {
-        return Err(anyhow!("cases.txt is not in ascending order"));
-    }
-    let cases = names.len();
-    let agreed = agreeing(rt, names.as_slice())?;
-    println!(rt; "{cases} cases run, {agreed} agree")?;
-    Ok(())
-}
-
 fn main(rt: HostRuntime) -> anyhow::Result<()> {
-    run(&rt)
+    let list = fs::read_to_string(&rt, "cases.txt")?;
+    let names: Vec<&str> = list.lines().collect(rt.alloc())?;
+    ensure!(ascending(&names), "cases.txt is not in ascending order");
+    run_cases(&rt, &names, |name| agrees(&rt, name))?;
+    Ok(())
 }

@@ -5,12 +5,7 @@ ghost use Rattle.std.specs.Prelude.{◌≡◌};
 
 // Whether each item is less than the next one.
 pub fn ascending<T: PartialOrd>(items: &[T]) -> bool
-    ensures { IsAllAdjacentAnswer (λ x y b. partial_lt T.partial_cmp x y ≡ b) items.now result }
+    ensures { IsAllAdjacentAnswer (λ x y b. b ≡ partial_lt T.partial_cmp x y) items.now result }
 {
-    for i in 1..items.len() {
-        if !(items[i - 1] < items[i]) {
-            return false;
-        }
-    }
-    true
+    items.is_sorted_by(|x, y| x < y)
 }
