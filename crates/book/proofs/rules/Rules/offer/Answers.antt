@@ -95,8 +95,8 @@ returns-in-Err c =
     let k = passed b c.args.head c.args.items.now c.args.cost c.in_ok-rule.rule c.new.result c.new.ensures c.in_ok-rule.ensures.ok_part c.if-head-ge-HEADS.false c.if-some_unknown.ensures
     c.deref.result.now c.deref.ensures.0 c.if-some_same.ensures in
     let m = meets b c.args.head c.args.items.now c.args.cost row rows k.0 (c.deref-2.ensures.0 ∙ c.push.ensures.items) k.1 (omega (arith, c.len-at.ensures.value)) in
-    let back = popped b.rows.items c.push.new.self.items c.pop.new.self.items row c.push.ensures.items c.pop.ensures.rest in
-    record { says = (m ∙ c.in-Err.ensures, restored b c.pop.new.self _ back); over = refl }
+    let back : c.pop.new.self.items ≡ b.rows.items = popped b.rows.items c.push.new.self.items c.pop.new.self.items row c.push.ensures.items c.pop.ensures.rest in
+    record { says = (m ∙ c.in-Err.ensures, restored b _ _ cc); over = refl }
 
 pub invariant_of-self-in_default : goal.invariant_of-self-in_default
 invariant_of-self-in_default c =
