@@ -3,7 +3,7 @@ use anyhow::Context;
 use book::alphabet::Bytes;
 use cases::books::loaded;
 use chart::fault::FeedFault;
-use programs::patterns::PATTERNS;
+use programs::patterns::{LETTERS, PATTERNS};
 use programs::totals::{Tables, Verdict, room};
 use std::fmt::Display;
 use std::time::{Duration, Instant};
@@ -62,7 +62,7 @@ fn time<T: Drop, F: FnOnce() -> Result<T, FeedFault>>(
     requires { F.IsAlwaysCallable total }
 {
     let start = Instant::now(rt)?;
-    let total = total().ok().context("an event is refused")?;
+    let total = total()?;
     let spent = start.elapsed(rt)?;
     Ok(Timed { spent, total })
 }
@@ -70,9 +70,9 @@ fn time<T: Drop, F: FnOnce() -> Result<T, FeedFault>>(
 // Loads the book of a case and feeds its trace in each weighing.
 pub(crate) fn measure(rt: &HostRuntime, case: &Case) -> anyhow::Result<Figures> {
     let text = fs::read(rt, case.book)?;
-    let patterns = PATTERNS
+    let patterns = PATTERNS[..LETTERS]
         .get(..case.patterns)
-        .context("more than 32 patterns")?;
+        .context("more than 26 patterns")?;
     let book = loaded::<Bytes>(patterns, &text)?.close();
     let trace = case.trace.as_bytes();
     let weights = room(&book, trace.len()).context("more than 256 events")?;

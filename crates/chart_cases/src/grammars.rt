@@ -21,9 +21,7 @@ fn table(
     let places = room(book, trace.len()).context("a trace is too long")?;
     let mut weights = vec![in heap; false; places]?;
     let mut chart: Chart<Bytes, YesNo> = Chart::cut(book, &mut weights);
-    feed_all(&mut chart, trace.as_bytes())
-        .ok()
-        .context("a table is too short")?;
+    feed_all(&mut chart, trace.as_bytes())?;
     Ok(Filled::new(heads, &weights, book.symbols(), trace.len()).lines(heap)?)
 }
 

@@ -18,9 +18,6 @@ pub(crate) fn totals_line<A: Alphabet>(
         verdict,
         count,
         least,
-    } = tables
-        .totals(book, trace)
-        .ok()
-        .context("a table is too short")?;
+    } = tables.totals(book, trace)?;
     Ok(format!(in heap; "  {text}: {verdict}, count {count}, least cost {least}\n")?)
 }

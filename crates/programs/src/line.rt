@@ -2,7 +2,7 @@
 ghost use Rattle.std.specs.Prelude.{◌≡◌, ◌<◌, length, IfOk, string_bytes, codes};
 
 use crate::divide::{Parts, divide};
-use crate::patterns::PATTERNS;
+use crate::patterns::{LETTERS, PATTERNS};
 use crate::totals::Tables;
 use book::alphabet::Bytes;
 use book::books::{ClosedBook, OpenBook};
@@ -12,9 +12,6 @@ use text::lines::Lines;
 
 // The longest input that is read.
 pub const LIMIT: usize = 32_768;
-
-// The patterns: the small letters.
-const LETTERS: usize = 26;
 
 // The number of weights of each table.
 const WEIGHTS: usize = 15_360;
@@ -47,7 +44,7 @@ fn trace_lines(
     Ok(out)
 }
 
-// The output for a book that was loaded.
+// The output for a book that was loaded. It loads by itself, since a refusal is printed in words of its own.
 fn loaded(heap: Global, mut book: OpenBook<Bytes>, parts: Parts) -> Result<String, AllocError> {
     if let Err(fault) = book.load(parts.rules) {
         return format!(in heap; "refused {} {}\n", fault.number(), fault.place());
@@ -56,7 +53,7 @@ fn loaded(heap: Global, mut book: OpenBook<Bytes>, parts: Parts) -> Result<Strin
     trace_lines(heap, &closed, parts.traces)
 }
 
-// The output for an input of any bytes.
+// The output for an input of any bytes. The patterns are the small letters, of which no table refuses any.
 pub fn line(heap: Global, input: &[u8]) -> Result<String, AllocError>
     ensures { 32768 < length input.now → IfOk result (λ s. string_bytes s ≡ codes "refused 25\n") }
 {

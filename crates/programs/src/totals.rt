@@ -99,6 +99,9 @@ impl Tables {
         })
     }
 
+    // Each weighing cuts, feeds and asks in turn: one function that does it for all of them can't be stated yet, since neither a
+    // closure over a chart nor a result that holds one can stand in its contract.
+
     // Whether there is a reading of a trace, or the refusal of an event.
     pub fn verdict<A: Alphabet>(
         &mut self,
