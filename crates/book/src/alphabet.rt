@@ -12,7 +12,7 @@ pub trait Alphabet {
     // the pattern fits the event
     ghost fits: { Self.Pattern → Self.Event → Type 0 };
 
-    // Whether the pattern fits the event.
+    // Whether the pattern fits the event. Two clauses, each of which an alphabet shows by itself.
     fn fit(pattern: Self::Pattern, event: Self::Event) -> bool
         ensures only { T result → fits pattern event }
         ensures always { fits pattern event → T result };

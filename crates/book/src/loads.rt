@@ -38,6 +38,7 @@ impl Rules {
         let Some(rule) = line.rule()? else {
             return Ok(false);
         };
+        // A match, and no map_err: that hides from the proof what was refused.
         match self.offer(rule.head(), rule.right(), rule.cost()) {
             Ok(_) => Ok(true),
             Err(_) => Err(LoadFault::Refused(first_place(line))),

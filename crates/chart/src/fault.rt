@@ -9,7 +9,7 @@ use std::fmt;
 #[derive(Clone, Copy, Debug, PartialEq, Eq)]
 pub enum FeedFault {
     // 256 events are held, or the table is too short for one more
-    NoRoom,
+    NoRoom = 11,
 }
 
 impl FeedFault {
@@ -17,9 +17,7 @@ impl FeedFault {
     pub fn number(self) -> u8
         ensures { result ≡ feed_number self }
     {
-        match self {
-            FeedFault::NoRoom => 11,
-        }
+        self as u8
     }
 }
 

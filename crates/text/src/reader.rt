@@ -84,9 +84,7 @@ fn step(was: Reading, token: Token<'_>) -> Result<Reading, LineFault>
     ensures { StepSays was token.entry result }
 {
     let n = number_of(token)?;
-    let Some(stage) = next_stage(was.stage, token) else {
-        return Err(LineFault::OutOfPlace(place_of(token)));
-    };
+    let stage = next_stage(was.stage, token).ok_or(LineFault::OutOfPlace(place_of(token)))?;
     Ok(Reading {
         stage,
         line: with_word(was, token, n),

@@ -6,5 +6,5 @@ use Rattle.programs.proofs.totals.Tables.least.Goals as goal
 pub returns : goal.returns
 returns g c = λ test ok.
     let said = subst (λ b. IsLeastCost (closed_book b) (closed_fits test b) 4294967295 c.args.trace.now c.least_cost.result) (ap (λ b. b.now) c.in_ok-feed_all.ensures.book ∙ c.cut-chart.ensures.book)
-        (c.least_cost.ensures test ok c.args.trace.now (c.in_ok-feed_all.ensures.chart test ok [] (c.cut-chart.ensures.holds test))) in
+    (c.least_cost.ensures test ok c.args.trace.now (c.in_ok-feed_all.ensures.chart test ok [] (c.cut-chart.ensures.holds test))) in
     search said

@@ -6,5 +6,5 @@ use Rattle.programs.proofs.totals.Tables.verdict.Goals as goal
 pub returns : goal.returns
 returns g c = λ test ok.
     let said = subst (λ b. Explained (closed_book b) (closed_fits test b) c.args.trace.now c.explained.result) (ap (λ b. b.now) c.in_ok-feed_all.ensures.book ∙ c.cut-chart.ensures.book)
-        (c.explained.ensures test ok c.args.trace.now (c.in_ok-feed_all.ensures.chart test ok [] (c.cut-chart.ensures.holds test))) in
+    (c.explained.ensures test ok c.args.trace.now (c.in_ok-feed_all.ensures.chart test ok [] (c.cut-chart.ensures.holds test))) in
     search said
