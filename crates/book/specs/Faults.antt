@@ -38,25 +38,33 @@ abbrev pub load_place : LoadFault → ℕ
 load_place (Line f) = line_fault_place f
 load_place (Refused at) = at
 
+-- a cause in plain words, with the number of a refusal
+abbrev pub with_number : List ℕ → ℕ → List ℕ
+with_number cause n = cause ++ (codes " (refusal " ++ (decimal n ++ codes ")"))
+
 -- the refusal of a check in plain words, with its number
 abbrev pub table_text : TableFault → List ℕ
-table_text TooManyPatterns = codes "more than 32 patterns (refusal 8)"
+table_text f = with_number (codes "more than 32 patterns") (table_number f)
 
--- that of an offer
+-- the cause of an offer's refusal
+abbrev pub offer_cause : OfferFault → List ℕ
+offer_cause HeadTooLarge = codes "a head over 31"
+offer_cause TooManyItems = codes "more than 8 items"
+offer_cause UnknownItem = codes "an item that is neither a head nor a pattern"
+offer_cause Repeated = codes "a rule that is held already"
+offer_cause BookFull = codes "more than 64 rules"
+offer_cause TooManyTails = codes "more than 64 tails"
+offer_cause TooManyStrictRules = codes "more than 1024 strict rules"
+
+-- an offer's refusal
 abbrev pub offer_text : OfferFault → List ℕ
-offer_text HeadTooLarge = codes "a head over 31 (refusal 1)"
-offer_text TooManyItems = codes "more than 8 items (refusal 2)"
-offer_text UnknownItem = codes "an item that is neither a head nor a pattern (refusal 3)"
-offer_text Repeated = codes "a rule that is held already (refusal 4)"
-offer_text BookFull = codes "more than 64 rules (refusal 5)"
-offer_text TooManyTails = codes "more than 64 tails (refusal 6)"
-offer_text TooManyStrictRules = codes "more than 1024 strict rules (refusal 7)"
+offer_text f = with_number (offer_cause f) (offer_number f)
 
 -- that of a strike
 abbrev pub strike_text : StrikeFault → List ℕ
-strike_text NoRule = codes "no rule to strike (refusal 10)"
+strike_text f = with_number (codes "no rule to strike") (strike_number f)
 
 -- that of a load
 abbrev pub load_text : LoadFault → List ℕ
 load_text (Line f) = line_fault_text f
-load_text (Refused at) = codes "a rule that the book refuses in the line at byte " ++ (decimal at ++ codes " (refusal 24)")
+load_text (Refused at) = with_number (codes "a rule that the book refuses in the line at byte " ++ decimal at) (load_number (Refused at))

@@ -6,7 +6,8 @@ use crate::converted::Converted;
 use crate::rules::Rules;
 use crate::table::PatternTable;
 
-// A book that takes rules. Closing it gives a closed book; no chart is cut from an open one.
+// A book that takes rules. Closing it gives a closed book; no chart is cut from an open one. A call that changes the rules says that the
+// table stays: both are parts of the book, so its type can't say it.
 #[derive(Drop)]
 pub struct OpenBook<'p, A: Alphabet> {
     pub(crate) table: PatternTable<'p, A>,

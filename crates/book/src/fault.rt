@@ -101,8 +101,9 @@ impl fmt::Display for TableFault {
     ghost output = { λ f. Some (table_text f) };
 
     fn fmt<W: fmt::Write>(&self, f: &mut fmt::Formatter<W>) -> fmt::Result {
+        let number = self.number();
         match self {
-            TableFault::TooManyPatterns => write!(f, "more than 32 patterns (refusal 8)"),
+            TableFault::TooManyPatterns => write!(f, "more than 32 patterns (refusal {number})"),
         }
     }
 }
@@ -111,18 +112,17 @@ impl fmt::Display for OfferFault {
     ghost output = { λ f. Some (offer_text f) };
 
     fn fmt<W: fmt::Write>(&self, f: &mut fmt::Formatter<W>) -> fmt::Result {
-        match self {
-            OfferFault::HeadTooLarge => write!(f, "a head over 31 (refusal 1)"),
-            OfferFault::TooManyItems => write!(f, "more than 8 items (refusal 2)"),
-            OfferFault::UnknownItem => write!(
-                f,
-                "an item that is neither a head nor a pattern (refusal 3)"
-            ),
-            OfferFault::Repeated => write!(f, "a rule that is held already (refusal 4)"),
-            OfferFault::BookFull => write!(f, "more than 64 rules (refusal 5)"),
-            OfferFault::TooManyTails => write!(f, "more than 64 tails (refusal 6)"),
-            OfferFault::TooManyStrictRules => write!(f, "more than 1024 strict rules (refusal 7)"),
-        }
+        let cause = match self {
+            OfferFault::HeadTooLarge => "a head over 31",
+            OfferFault::TooManyItems => "more than 8 items",
+            OfferFault::UnknownItem => "an item that is neither a head nor a pattern",
+            OfferFault::Repeated => "a rule that is held already",
+            OfferFault::BookFull => "more than 64 rules",
+            OfferFault::TooManyTails => "more than 64 tails",
+            OfferFault::TooManyStrictRules => "more than 1024 strict rules",
+        };
+        let number = self.number();
+        write!(f, "{cause} (refusal {number})")
     }
 }
 
@@ -130,8 +130,9 @@ impl fmt::Display for StrikeFault {
     ghost output = { λ f. Some (strike_text f) };
 
     fn fmt<W: fmt::Write>(&self, f: &mut fmt::Formatter<W>) -> fmt::Result {
+        let number = self.number();
         match self {
-            StrikeFault::NoRule => write!(f, "no rule to strike (refusal 10)"),
+            StrikeFault::NoRule => write!(f, "no rule to strike (refusal {number})"),
         }
     }
 }
@@ -140,11 +141,12 @@ impl fmt::Display for LoadFault {
     ghost output = { λ f. Some (load_text f) };
 
     fn fmt<W: fmt::Write>(&self, f: &mut fmt::Formatter<W>) -> fmt::Result {
+        let number = self.number();
         match self {
             LoadFault::Line(fault) => write!(f, "{fault}"),
             LoadFault::Refused(at) => write!(
                 f,
-                "a rule that the book refuses in the line at byte {at} (refusal 24)"
+                "a rule that the book refuses in the line at byte {at} (refusal {number})"
             ),
         }
     }

@@ -22,10 +22,7 @@ fn first_place(line: Line<'_>) -> usize
     ensures inside { result ≤ length line.entry.text.now }
     ensures is { (words_of line.entry ≡ [] → ⊥) → result ≡ first_place (words_of line.entry) }
 {
-    match line.words().next() {
-        Some(word) => word.place,
-        None => line.from,
-    }
+    line.words().next().map_or(line.from, |word| word.place)
 }
 
 impl Rules {

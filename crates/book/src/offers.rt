@@ -34,7 +34,7 @@ fn some_unknown(items: &[u8], patterns: u8) -> bool
     items.iter().any(|item| *item >= 32 + patterns)
 }
 
-// Whether two rules have the same head and right side.
+// Whether two rules have the same head and right side. That is not equality of productions, which have costs too.
 fn same(a: &Production, b: &Production) -> bool
     ensures { result ≡ same_rule (production_of a.now) (production_of b.now) }
 {

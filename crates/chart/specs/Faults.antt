@@ -1,5 +1,6 @@
 -- The numbers of the refusals, and what they say.
 use Rattle.std.specs.Prelude.{ℕ, List, codes}
+use Rattle.book.specs.Faults.{with_number}
 use Rattle.chart.specs.declared.fault.FeedFault.{FeedFault}
 use Rattle.chart.specs.declared.fault.FeedFault.TheVariants.{NoRoom}
 
@@ -9,4 +10,4 @@ feed_number NoRoom = 11
 
 -- the refusal of a feed in plain words: its cause and its number
 abbrev pub feed_text : FeedFault → List ℕ
-feed_text NoRoom = codes "no room for one more event (refusal 11)"
+feed_text f = with_number (codes "no room for one more event") (feed_number f)

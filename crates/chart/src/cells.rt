@@ -20,7 +20,7 @@ pub(crate) fn cell_place(symbols: usize, end: usize, start: usize) -> usize
     column_place(symbols, end) + start * symbols
 }
 
-// What stands at a place, or zero past the end.
+// What stands at a place, or zero past the end: the weights of a table are zero where it has none, so there is no Option of it.
 pub(crate) fn peek<W: Weighing>(weights: &[W::Value], place: usize) -> W::Value
     ensures { result ≡ slice_index_or weights.now place W.Weighing.ops.zero }
 {

@@ -22,7 +22,7 @@ use weighing::bank::Bank;
 use weighing::weighing::Weighing;
 
 // So many events a chart holds at most.
-const EVENTS: usize = 256;
+pub const EVENTS: usize = 256;
 
 // The events themselves are not stored: the table holds the weight of each symbol over each part of them.
 #[derive(Drop)]

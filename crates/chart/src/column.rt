@@ -11,6 +11,7 @@ use book::books::ClosedBook;
 use weighing::weighing::Weighing;
 
 // The column of the event of that number in a table of weights, by a book and its weighed strict rules. The table has room for it.
+// A method that writes says that all but the weights stays (SameColumn): the weights are a part of it, so no type can say it for them.
 #[derive(Drop)]
 pub(crate) struct Column<'t, 'p, A: Alphabet, W: Weighing> {
     pub(crate) book: &'t ClosedBook<'p, A>,

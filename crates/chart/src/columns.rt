@@ -38,7 +38,8 @@ impl<'t, 'p, A: Alphabet, W: Weighing> Column<'t, 'p, A, W> {
     }
 
     // Adds to the cell of a start what the pairs of the right part come to over the left part, up to the middle. The sum of a run
-    // of pairs of one symbol is written once. One loop with a sum, and no list of runs: the sum is at hand where a run ends.
+    // of pairs of one symbol is written once. One loop with a sum, and no list of runs: the sum is at hand where a run ends. The middle
+    // lies before the end of the column, here and in the next two: a fact of the middle, which is a number of its own at each turn.
     fn add_pairs(&mut self, pairs: &[Pair<W::Value>], middle: usize, start: usize)
         requires parts { (start < middle) × (middle < self.old.end) }
         requires within { PairsWithin self.old.symbols pairs.now }

@@ -25,8 +25,9 @@ impl fmt::Display for FeedFault {
     ghost output = { λ f. Some (feed_text f) };
 
     fn fmt<W: fmt::Write>(&self, f: &mut fmt::Formatter<W>) -> fmt::Result {
+        let number = self.number();
         match self {
-            FeedFault::NoRoom => write!(f, "no room for one more event (refusal 11)"),
+            FeedFault::NoRoom => write!(f, "no room for one more event (refusal {number})"),
         }
     }
 }

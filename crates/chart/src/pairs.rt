@@ -10,7 +10,7 @@ pub(crate) struct Pair<V> {
     pub(crate) weight: V,
 }
 
-// What lies in a place that holds no pair.
+// What lies in a place that holds no pair. By hand, since a weighing's values have no default but the zero that is handed in.
 impl<V: Copy> MadeWith<V> for Pair<V> {
     fn made_with(zero: V) -> Pair<V> {
         Pair {

@@ -14,7 +14,7 @@ struct CardCase<'t> {
     traces: Vec<&'t str>,
 }
 
-// A pattern: its kind, its lowest and its highest argument.
+// A pattern: its kind, its lowest and its highest argument. A function and no FromStr, since the type is another crate's.
 fn card_pattern(text: &str) -> anyhow::Result<CardPattern> {
     let (kind, range) = text.split_once(' ').context("a pattern has no range")?;
     let (lowest, highest) = range

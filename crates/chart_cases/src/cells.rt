@@ -15,7 +15,8 @@ pub struct Filled<'t> {
     ghost few_events: { events ≤ 256 },
 }
 
-// Where the cell of a start stands in the column of an event.
+// Where the cell of a start stands in the column of an event. By the table's published layout and not by the chart's own function, so
+// that what is shown does not rest on the code that filled it.
 fn cell_place(symbols: usize, event: usize, start: usize) -> usize
     requires { (symbols ≤ 128) × ((0 < event) × ((event ≤ 256) × (start < event))) }
     ensures { result ≡ cell_place symbols event start }

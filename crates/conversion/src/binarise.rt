@@ -36,7 +36,7 @@ impl BinarisedRules {
     }
 
     // The rules of a right side of two items or more: each pair is an item and the tail that stands for the items after it, the
-    // last one the last two items.
+    // last one the last two items. These two by their places: what is promised is said of one list of items.
     fn pairs(&mut self, head: u8, number: u8, items: &[u8])
         requires several { 2 ≤ length items.now }
         requires room { Room self.old items.now }
@@ -68,7 +68,7 @@ impl BinarisedRules {
     }
 }
 
-// The right side of one item: a head's symbol, or a pattern.
+// The right side of one item: a head's symbol, or a pattern. A function and no From, since only some bytes are items.
 fn single(item: u8) -> Right
     ensures { Single item result }
 {
@@ -92,6 +92,7 @@ pub(crate) fn binarise(productions: &[Production], patterns: u8) -> BinarisedRul
         out.production(n as u8, production);
     }
     for t in 0..patterns {
+        // the format numbers this rule 255
         out.push(32 + t, 255, Right::Terminal(t));
     }
     out

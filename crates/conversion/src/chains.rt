@@ -33,7 +33,7 @@ impl Chains {
     }
 
     // The chosen chain from one symbol to another is found.
-    // A test of the bounds, and no get_mut: that is one test inside the other.
+    // A test of the bounds, and no get_mut: after that the proof has no name for the table.
     fn put(&mut self, from: u8, to: u8, chain: Chain)
         ensures { (x y : ℕ) → x < 128 → y < 128 → link self.new x y ≡ (if nat_eq x from && y == to then Some chain else link self.old x y) }
     {
@@ -67,6 +67,7 @@ impl Chains {
     {
         let mut grew = false;
         for y in 0..128 {
+            // & and no &&, so that the proof has one test to follow
             if !self.reaches(step.from, y) & self.within(step.to, y, steps) {
                 self.put(step.from, y, Chain::Steps(steps, step));
                 grew = true;
@@ -89,6 +90,7 @@ impl Chains {
 }
 
 // The chosen chains of binarised rules. A shortest chain passes no symbol twice, so it has fewer than 128 steps.
+// The rounds end as those of the nullable symbols do: two loops, and no function for both, since each keeps a fact of its own.
 pub(crate) fn chains(binarised: &BinarisedRules, nullable: &Nullable) -> Chains
     requires nullables { Nullables (grammar_of binarised.now) nullable.now }
     requires ends { EndsBelow (grammar_of binarised.now) }

@@ -1,4 +1,4 @@
-//! Puts a list of productions into strict Chomsky form, in fixed arrays: binarised rules, nullable symbols by rounds, unit
+//! Puts a list of productions into strict Chomsky form, in vectors and tables of fixed size: binarised rules, nullable symbols by rounds, unit
 //! steps and their chosen chains, strict rules.
 #![tactic(auto)]
 

@@ -61,6 +61,7 @@ impl Nullable {
     {
         let mut grew = false;
         for rule in binarised.rules.iter() {
+            // & and no &&, so that the proof has one test to follow
             if !self.holds(rule.left) & self.ready(rule.right, round) {
                 self.put(
                     rule.left,

@@ -1,4 +1,4 @@
-// What is asked of productions: their parts, whether two have the same head and right side, how many tails they take.
+// What is asked of productions: their parts, how many tails they take.
 ghost use Rattle.std.specs.Prelude.{◌≡◌, ℕ, ◌<◌, ◌≤◌, ◌&&◌, [], map, length, take, MatchOption};
 ghost use Rattle.grammar.specs.Productions.{all_tails, tails};
 ghost use Rattle.conversion.specs.Rows.{production_of, written};

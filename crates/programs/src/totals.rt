@@ -10,7 +10,7 @@ ghost use Rattle.programs.specs.Answers.{AreTotals, verdict_word, totals_words};
 
 use book::alphabet::Alphabet;
 use book::books::ClosedBook;
-use chart::chart::Chart;
+use chart::chart::{Chart, EVENTS};
 use chart::fault::FeedFault;
 use chart::totals::{explained, least_cost, readings};
 use std::alloc::{AllocError, Global};
@@ -18,9 +18,6 @@ use std::fmt;
 use weighing::capped::Capped;
 use weighing::kinds::{Count, LeastCost, YesNo};
 use weighing::weighing::Weighing;
-
-// So many events a chart holds at most.
-const EVENTS: usize = 256;
 
 // Whether there is a reading, printed as a word.
 #[derive(Clone, Copy, PartialEq, Eq, Debug)]

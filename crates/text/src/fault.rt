@@ -19,7 +19,7 @@ pub enum LineFault {
 }
 
 impl LineFault {
-    // The number of the refusal.
+    // The number of the refusal: by cases, since these hold a place and so are no numbers themselves.
     pub fn number(self) -> u8
         ensures { result ≡ line_fault_number self }
     {

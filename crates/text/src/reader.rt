@@ -20,9 +20,12 @@ fn place_of(token: Token<'_>) -> usize
     ensures { result ≡ place_of token.entry }
 {
     match token {
-        Token::Arrow(_, at) | Token::Blank(_, at) => at,
-        Token::Head(_, at) | Token::Pattern(_, at) => at,
-        Token::Cost(_, at) | Token::Unknown(_, at) => at,
+        Token::Arrow(_, at)
+        | Token::Blank(_, at)
+        | Token::Head(_, at)
+        | Token::Pattern(_, at)
+        | Token::Cost(_, at)
+        | Token::Unknown(_, at) => at,
     }
 }
 
@@ -34,13 +37,15 @@ fn lettered_number(word: &[u8], at: usize, limit: u32) -> Result<u32, LineFault>
     number(&word[1..], limit).ok_or(LineFault::OverLimit(at))
 }
 
-// The number that a word says, 0 of one without: an unknown word and one over its limit are refused.
+// The number that a word says: an unknown word and one over its limit are refused. A word without a number says 0, which nothing reads,
+// so there is no Option of it.
 fn number_of(token: Token<'_>) -> Result<u32, LineFault>
     requires { Sound token }
     ensures { NumberSays token.entry result }
 {
     match token {
         Token::Arrow(..) | Token::Blank(..) => Ok(0),
+        // a head and a pattern have limits of their own, which are the same number
         Token::Head(word, at) => lettered_number(word, at, 31),
         Token::Pattern(word, at) => lettered_number(word, at, 31),
         Token::Cost(word, at) => lettered_number(word, at, 65535),

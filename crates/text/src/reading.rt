@@ -1,6 +1,6 @@
 use crate::rule_line::RuleLine;
 
-// What the last word was: it says which words may come next.
+// What the last word was: it says which words may come next. An enum and no closure for each stage: the law of a line speaks of stages.
 #[derive(Clone, Copy)]
 pub(crate) enum Stage {
     Start,

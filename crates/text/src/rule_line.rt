@@ -2,6 +2,7 @@ ghost use Rattle.std.specs.Prelude.{◌≡◌, ℕ, ◌<◌, ◌≤◌, [], ◌�
 
 // A rule as a line says it: head h is h, pattern t is 32 + t. Nine items stand for nine or more.
 // The items are an array with a length, since the kit's vector of fixed capacity is not Copy and a rule line is.
+// A type of its own beside conversion's row of a production: this crate knows nothing of that one, and its ninth item stands for more.
 #[derive(Clone, Copy)]
 pub struct RuleLine {
     head: u8,

@@ -58,6 +58,8 @@ fn line_len(bytes: &[u8]) -> usize
     bytes.iter().take_while(|b| **b != b'\n').count()
 }
 
+// These chains differ in their test alone, which one function with a closure for it would only hand on to the library.
+
 // How many bytes at the front part words.
 fn gap_len(bytes: &[u8]) -> usize
     ensures { result ≡ prefix_len parts bytes.now }
