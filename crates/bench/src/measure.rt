@@ -73,7 +73,7 @@ pub(crate) fn measure(rt: &HostRuntime, case: &Case) -> anyhow::Result<Figures> 
     let patterns = PATTERNS[..LETTERS]
         .get(..case.patterns)
         .context("more than 26 patterns")?;
-    let book = loaded::<Bytes>(patterns, &text)?.close();
+    let book = loaded::<Bytes>(patterns, &text)?.0.close();
     let trace = case.trace.as_bytes();
     let weights = room(&book, trace.len()).context("more than 256 events")?;
     let mut tables = Tables::new(rt.alloc(), weights)?;

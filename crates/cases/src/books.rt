@@ -7,14 +7,14 @@ use book::alphabet::Alphabet;
 use book::books::OpenBook;
 use book::table::PatternTable;
 
-// A book over these patterns that holds the rules of a text.
+// A book over these patterns that holds the rules of a text, and how many lines were offered.
 pub fn loaded<'p, A: Alphabet>(
     patterns: &'p [A::Pattern],
     rules: &[u8],
-) -> anyhow::Result<OpenBook<'p, A>>
-    ensures { IfOk result (λ b. (b.table.patterns.now ≡ patterns.now) × ((n : ℕ) × (load (length patterns.now) [] rules.now ≡ taken (open_held b) n))) }
+) -> anyhow::Result<(OpenBook<'p, A>, usize)>
+    ensures { IfOk result (λ b. (b.0.table.patterns.now ≡ patterns.now) × (load (length patterns.now) [] rules.now ≡ taken (open_held b.0) b.1)) }
 {
     let mut book = OpenBook::new(PatternTable::check(patterns)?);
-    book.load(rules)?;
-    Ok(book)
+    let lines = book.load(rules)?;
+    Ok((book, lines))
 }

@@ -34,19 +34,18 @@ fn written(heap: Global, book: &ClosedBook<Bytes>) -> anyhow::Result<String> {
     Ok(out)
 }
 
-// Whether the rules of a book, written as text and loaded into a new book, give the same lines.
+// Whether the rules of a book, written as text and loaded into a new book, give the same lines. A book that can't be loaded differs.
 fn same_when_written(
     heap: Global,
     patterns: &[u8],
     book: &ClosedBook<Bytes>,
 ) -> anyhow::Result<bool> {
     let text = written(heap, book)?;
-    let Ok(other) = loaded::<Bytes>(patterns, text.as_bytes()) else {
+    let Ok((other, loaded)) = loaded::<Bytes>(patterns, text.as_bytes()) else {
         return Ok(false);
     };
-    let other = other.close();
-    let lines = form_lines(heap, &other)?;
-    Ok(other.rule_count() == book.rule_count() && lines == form_lines(heap, book)?)
+    let lines = form_lines(heap, &other.close())?;
+    Ok(loaded == book.rule_count() && lines == form_lines(heap, book)?)
 }
 
 // Whether the book of a case holds the rules loaded and no other, also when it is written and loaded again, and its lines are those expected.
@@ -54,14 +53,14 @@ pub(crate) fn agrees(heap: Global, case: &Case) -> anyhow::Result<bool> {
     let patterns = PATTERNS
         .get(..case.patterns)
         .context("a case has more than 32 patterns")?;
-    let Ok(mut book) = loaded::<Bytes>(patterns, case.rules.as_bytes()) else {
+    let Ok((mut book, loaded)) = loaded::<Bytes>(patterns, case.rules.as_bytes()) else {
         return Ok(false);
     };
     let mut out = offers(heap, &mut book, &case.offers)?;
     let closed = book.close();
     out.push_str(&form_lines(heap, &closed)?)?;
     Ok(
-        closed.rule_count() == case.rules.lines().count()
+        closed.rule_count() == loaded
             && out == case.expected
             && same_when_written(heap, patterns, &closed)?,
     )
