@@ -81,7 +81,7 @@ pub fn feed_all<A: Alphabet, W: Weighing>(
 }
 
 // Each weighing cuts, feeds and asks in turn: one function that does it for all of them can't be stated yet, since neither a
-// closure over a chart nor a result that holds one can stand in its contract.
+// closure over a chart nor a result that holds one can stand in its contract. Each takes its table alone, whose length is known to stay.
 
 // Whether there is a reading of a trace, worked out in a table.
 fn verdict_in<A: Alphabet>(
