@@ -1,9 +1,17 @@
 -- What is answered of a trace.
-use Rattle.std.specs.Prelude.{ℕ, Bool, List, ◌∷◌, ◌++◌, cond, codes, decimal}
+use Rattle.std.specs.Prelude.{◌≡◌, ℕ, ◌+◌, ◌<◌, ◌≤◌, ◌⊎◌, Bool, List, ◌∷◌, ◌++◌, Ok, Err, Result, vec_len, cond, codes, decimal}
+use Rattle.grammar.specs.Rooms.{column_place}
 use Rattle.book.specs.declared.alphabet.Alphabet.{Ghosts}
 use Rattle.book.specs.declared.books.ClosedBook.{ClosedBook}
 use Rattle.book.specs.Books.{closed_book, closed_fits}
+use Rattle.weighing.specs.declared.weighing.Weighing.{Ghosts as Weighings}
+use Rattle.weighing.specs.declared.bank.Bank.{Ghosts as Banks}
+use Rattle.chart.specs.declared.chart.Chart.{Chart}
+use Rattle.chart.specs.declared.fault.FeedFault.{FeedFault}
+use Rattle.chart.specs.Faults.{feed_number}
+use Rattle.chart.specs.Feeds.{chart_refusal}
 use Rattle.chart.specs.Totals.{Explained, CountsReadings, IsLeastCost}
+use Rattle.programs.specs.declared.totals.Tables.{Tables}
 use Rattle.programs.specs.declared.totals.Totals.{Totals}
 use Rattle.programs.specs.declared.totals.Verdict.{Verdict}
 
@@ -12,6 +20,23 @@ pub record AreTotals {A E P : Type 0} {G : Ghosts A E P} (b : ClosedBook A E P G
   pub verdict : Explained (closed_book b) (closed_fits test b) es t.verdict.0
   pub count : CountsReadings (closed_book b) (closed_fits test b) 4294967295 es t.count
   pub least : IsLeastCost (closed_book b) (closed_fits test b) 4294967295 es t.least
+
+-- k events more were fed to a chart: it holds all of them then; or it holds fewer, and as it then stands it has no room for one more
+abbrev pub FedAll : {A K E P V U X : Type 0} {G : Ghosts A E P} {H : Weighings K V U} {B : Banks U V} → Chart A K E P V U G H B → Chart A K E P V U G H B → ℕ → Result X FeedFault → Type 0
+FedAll was is k (Ok x) = is.events ≡ was.events + k
+FedAll was is k (Err f) = (was.events ≤ is.events) × (is.events < was.events + k) × (chart_refusal is ≡ feed_number f)
+
+-- a table of m weights, S to a cell, has room for the chart of so many events, if there are any
+abbrev pub HasRoom : ℕ → ℕ → ℕ → Type 0
+HasRoom S m events = (events ≡ 0) ⊎ ((events ≤ 256) × (column_place S (events + 1) ≤ m))
+
+-- the tables of the three weighings have as many weights as before
+abbrev pub AsLong : Tables → Tables → Type 0
+AsLong was is = (vec_len is.verdicts ≡ vec_len was.verdicts) × (vec_len is.counts ≡ vec_len was.counts) × (vec_len is.costs ≡ vec_len was.costs)
+
+-- each of them has room for the chart of so many events
+abbrev pub HaveRoom : ℕ → Tables → ℕ → Type 0
+HaveRoom S t events = HasRoom S (vec_len t.verdicts) events × HasRoom S (vec_len t.counts) events × HasRoom S (vec_len t.costs) events
 
 -- a verdict as a word
 abbrev pub verdict_word : Verdict → List ℕ

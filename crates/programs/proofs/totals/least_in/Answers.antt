@@ -1,10 +1,10 @@
 use Rattle.std.proofs.Common.{[], subst, ap, ◌∙◌}
 use Rattle.book.specs.Books.{closed_book, closed_fits}
 use Rattle.chart.specs.Totals.{IsLeastCost}
-use Rattle.programs.proofs.totals.Tables.least.Goals as goal
+use Rattle.programs.proofs.totals.least_in.Goals as goal
 
-pub returns : goal.returns
-returns g c = λ test ok.
+pub returns-clause-answer : goal.returns-clause-answer
+returns-clause-answer g c = λ test ok.
     let said = subst (λ b. IsLeastCost (closed_book b) (closed_fits test b) 4294967295 c.args.trace.now c.least_cost.result) (ap (λ b. b.now) c.in_ok-feed_all.ensures.book ∙ c.cut-chart.ensures.book)
     (c.least_cost.ensures test ok c.args.trace.now (c.in_ok-feed_all.ensures.chart test ok [] (c.cut-chart.ensures.holds test))) in
     search said
