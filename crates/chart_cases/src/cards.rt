@@ -66,7 +66,9 @@ impl<'t> CardCase<'t> {
 // The lines of the case of a text.
 pub(crate) fn card_lines(heap: Global, text: &str) -> anyhow::Result<String> {
     let case = CardCase::of(heap, text)?;
-    let book = loaded::<Cards>(&case.patterns, case.rules.as_bytes())?.0.close();
+    let book = loaded::<Cards>(&case.patterns, case.rules.as_bytes())?
+        .0
+        .close();
     let mut out = String::from_str(heap, "card events\n")?;
     for trace in &case.traces {
         let events: Vec<CardEvent> = trace.split(' ').map(card_event).try_collect(heap)?;

@@ -27,7 +27,9 @@ fn table(
 
 // The lines of a case.
 pub(crate) fn case_lines(heap: Global, case: &Case) -> anyhow::Result<String> {
-    let book = loaded::<Bytes>(case.patterns.as_bytes(), case.rules.as_bytes())?.0.close();
+    let book = loaded::<Bytes>(case.patterns.as_bytes(), case.rules.as_bytes())?
+        .0
+        .close();
     let mut out = format!(in heap; "{}\n", case.name)?;
     for trace in &case.tables {
         let lines = table(heap, &book, &case.heads, trace)?;
