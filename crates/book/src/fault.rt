@@ -1,4 +1,5 @@
-// Why a call is refused. The numbers of the refusals are given by one definition for each kind of fault.
+// Why a call is refused. The numbers of the refusals are given by one definition for each kind of fault, so each kind has a number call
+// of its own: a trait for that one line would say no more.
 ghost use Rattle.std.specs.Prelude.{◌≡◌, Some};
 ghost use Rattle.book.specs.Faults.{table_number, offer_number, strike_number, load_number, load_place, table_text, offer_text, strike_text, load_text};
 

@@ -112,7 +112,7 @@ impl Rules {
         Converted { rules: self, form }
     }
 
-    // The cost of a rule, or 0 where there is none of that number.
+    // The cost of a rule, or 0 where there is none of that number: no Option, since a rule that is asked for is there.
     pub fn cost(&self, number: u8) -> u16
         ensures { result ≡ cost_of (held self.now) number }
     {
