@@ -72,7 +72,11 @@ pub(crate) fn card_lines(heap: Global, text: &str) -> anyhow::Result<String> {
     let mut out = String::from_str(heap, "card events\n")?;
     for trace in &case.traces {
         let events: Vec<CardEvent> = trace.split(' ').map(card_event).try_collect(heap)?;
-        write!(out, "{}", totals_line::<Cards>(heap, &book, trace, &events)?)?;
+        write!(
+            out,
+            "{}",
+            totals_line::<Cards>(heap, &book, trace, &events)?
+        )?;
     }
     Ok(out)
 }
