@@ -27,7 +27,7 @@ fn card_pattern(text: &str) -> anyhow::Result<CardPattern> {
     })
 }
 
-// An event: its kind and its argument.
+// An event: its kind and its argument. A function for the same reason.
 fn card_event(text: &str) -> anyhow::Result<CardEvent> {
     let (kind, argument) = text.split_once(':').context("an event has no argument")?;
     Ok(CardEvent {
@@ -72,7 +72,11 @@ pub(crate) fn card_lines(heap: Global, text: &str) -> anyhow::Result<String> {
     let mut out = String::from_str(heap, "card events\n")?;
     for trace in &case.traces {
         let events: Vec<CardEvent> = trace.split(' ').map(card_event).try_collect(heap)?;
-        out.push_str(&totals_line::<Cards>(heap, &book, trace, &events)?)?;
+        write!(
+            out,
+            "{}",
+            totals_line::<Cards>(heap, &book, trace, &events)?
+        )?;
     }
     Ok(out)
 }

@@ -37,7 +37,7 @@ pub(crate) fn case_lines(heap: Global, case: &Case) -> anyhow::Result<String> {
     }
     for trace in &case.totals {
         let line = totals_line::<Bytes>(heap, &book, trace, trace.as_bytes())?;
-        out.push_str(&line)?;
+        write!(out, "{line}")?;
     }
     Ok(out)
 }

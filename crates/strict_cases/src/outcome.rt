@@ -58,7 +58,7 @@ pub(crate) fn agrees(heap: Global, case: &Case) -> anyhow::Result<bool> {
     };
     let mut out = offers(heap, &mut book, &case.offers)?;
     let closed = book.close();
-    out.push_str(&form_lines(heap, &closed)?)?;
+    write!(out, "{}", form_lines(heap, &closed)?)?;
     Ok(
         closed.rule_count() == loaded
             && out == case.expected
