@@ -10,7 +10,8 @@ use Rattle.grammar.proofs.Lists.{mem_map}
 use Rattle.grammar.proofs.Rounds.{holds_on, in_the_end, settled}
 use Rattle.grammar.proofs.Nullable.{rounds_next, rounds_grow, rounds_small}
 use Rattle.conversion.specs.Views.{right_side_of, rule_of, binarised_of}
-use Rattle.conversion.specs.Held.{Brings, WithinRounds, AfterRounds, BroughtIn, Nullables, sooner}
+use Rattle.conversion.specs.Held.{Brings, BroughtWhere, NullablesAfter, Nullables}
+use Rattle.conversion.specs.Rounds.{sooner}
 use Rattle.conversion.specs.declared.right.BinarisedRule.{BinarisedRule}
 use Rattle.conversion.specs.declared.nullable.Brought.{Brought}
 use Rattle.conversion.specs.declared.nullable.Nullable.{Nullable}
@@ -30,15 +31,14 @@ Amid B k x os (Some b) = ((b.round < k) × Brings B x b)
 abbrev pub TableAmid : Binarised → ℕ → List Rule → List (Option Brought) → Type 0
 TableAmid B k rs t = (x : ℕ) → Amid B k x (rules_in x rs) (get_or t x None)
 
-amid_end : (B : Binarised) (k x : ℕ) (o : Option Brought) → Amid B k x (rules_of B x) o → WithinRounds B (suc k) x o
+brought_now : (B : Binarised) (k x : ℕ) (b : Brought) → b.round ≡ k → nullable_after B k x ≡ false → some_of (ripe B k) (rules_of B x) ≡ true
+    → (b.number, right_side_of b.right) ≡ first_of (ripe B k) (zero, empty) (rules_of B x) → (nullable_after B (suc k) x ≡ true) × Brings B x b
 unfolding nullable_after
-amid_end B k x None h = or_from (nullable_after B k x) _ h.0 h.1
-amid_end B k x (Some b) (inl h) = (omega (arith, h.0), h.1)
-amid_end B k x (Some b) (inr h) =
-    let e : k ≡ b.round = sym h.0 in (
-      omega (arith, h.0),
-      subst (λ j. (nullable_after B j x ≡ false) × (nullable_after B (suc j) x ≡ true) × ((b.number, right_side_of b.right) ≡ first_ready B (nullable_after B j) x)) e
-          (h.1, or_right (nullable_after B k x) _ h.2, h.3),
+brought_now B k x b e f s i =
+    let t : nullable_after B (suc k) x ≡ true = or_right (nullable_after B k x) _ s in (
+      t,
+      subst (λ j. (nullable_after B j x ≡ false) × (nullable_after B (suc j) x ≡ true) × ((b.number, right_side_of b.right) ≡ first_ready B (nullable_after B j) x)) (sym e)
+          (f, t, i),
     )
 
 amid_kept : (B : Binarised) (k x : ℕ) (os es : List OwnRule) (b : Brought) → Amid B k x os (Some b) → Amid B k x (os ++ es) (Some b)
@@ -80,15 +80,32 @@ module _ (B : Binarised) (bounded : Bounded B) where
   pub held_last : (k x : ℕ) → nullable_after B k x ≡ true → nullable_after B B.symbols x ≡ true
   held_last = in_the_end (next_round B) (nullable_after B) B.symbols (rounds_next B bounded) (rounds_grow B bounded) (rounds_small B bounded)
 
+  -- what is held after k rounds came in before round k
+  round_below : (k x : ℕ) (b : Brought) → nullable_after B k x ≡ true → Brings B x b → b.round < k
+  round_below k x b t h = elim (cases_lt b.round k) [ inl l ↦ l | inr g ↦ absurd (both_ways _ h.0 (held_on k b.round x g t)) ]
+
+  amid_start : (k x : ℕ) (o : Option Brought) → BroughtWhere B (nullable_after B k x) x o → Amid B k x [] o
+  amid_start k x None h = (h, refl)
+  amid_start k x (Some b) h = inl (round_below k x b h.0 h.1, h.1)
+
+  pub table_start : (k : ℕ) (n : Nullable) → NullablesAfter B k n → TableAmid B k [] n.brought
+  table_start k n h x = amid_start k x (get_or n.brought x None) (h x)
+
+  amid_end : (k x : ℕ) (o : Option Brought) → Amid B k x (rules_of B x) o → BroughtWhere B (nullable_after B (suc k) x) x o
+  unfolding nullable_after
+  amid_end k x None h = or_from (nullable_after B k x) _ h.0 h.1
+  amid_end k x (Some b) (inl h) = (held_on (suc b.round) (suc k) x (omega (arith, h.0)) h.1.1, h.1)
+  amid_end k x (Some b) (inr h) = brought_now B k x b h.0 h.1 h.2 h.3
+
   -- within round k, a round before k brought in what is held after k rounds
   sooner_held : (k x : ℕ) (os : List OwnRule) (o : Option Brought) → Amid B k x os o → sooner k o ≡ nullable_after B k x
   sooner_held k x os None h = sym h.0
   sooner_held k x os (Some b) (inl h) = lt-ltb b.round k h.0 ∙ sym (held_on (suc b.round) k x (omega (arith, h.0)) h.1.1)
   sooner_held k x os (Some b) (inr h) = le-ltb b.round k (omega (arith, h.0)) ∙ sym h.1
 
-  pub table_end : (k : ℕ) (n : Nullable) → TableAmid B k B.rules n.brought → AfterRounds B (suc k) n
+  pub table_end : (k : ℕ) (n : Nullable) → TableAmid B k B.rules n.brought → NullablesAfter B (suc k) n
   unfolding rules_of
-  table_end k n h x = amid_end B k x (get_or n.brought x None) (h x)
+  table_end k n h x = amid_end k x (get_or n.brought x None) (h x)
 
   module _ (k : ℕ) (rs : List Rule) (r : BinarisedRule) (t : List (Option Brought)) (amid : TableAmid B k rs t) where
     sooner_same : (λ y. sooner k (get_or t y None)) ≡ nullable_after B k
@@ -142,15 +159,10 @@ module _ (B : Binarised) (bounded : Bounded B) where
         none None e h = h
         none (Some b) e h = absurd (true≢false e)
 
-  -- what a table says after k rounds, if no later round adds anything
-  within_brought : (k x : ℕ) (o : Option Brought) → nullable_after B k x ≡ nullable B x → WithinRounds B k x o → BroughtIn B x o
-  within_brought k x None e h = sym e ∙ h
-  within_brought k x (Some b) e h = (sym e ∙ held_on (suc b.round) k x (omega (arith, h.0)) h.1.1, h.1)
-
   -- as many rounds as symbols, or more
-  pub rounds_all : (k : ℕ) (n : Nullable) → B.symbols ≤ k → AfterRounds B k n → Nullables B n
+  pub rounds_all : (k : ℕ) (n : Nullable) → B.symbols ≤ k → NullablesAfter B k n → Nullables B n
   unfolding nullable
-  rounds_all k n l h x = within_brought k x (get_or n.brought x None) same (h x)
+  rounds_all k n l h x = subst (λ t. BroughtWhere B t x (get_or n.brought x None)) same (h x)
     where
       same : nullable_after B k x ≡ nullable_after B B.symbols x
       same = elim (cases_Bool (nullable_after B k x)) [
@@ -160,26 +172,26 @@ module _ (B : Binarised) (bounded : Bounded B) where
       ]
 
   -- a round that leaves the table as it was is the last
-  pub rounds_rest : (k : ℕ) (n m : Nullable) → m.brought ≡ n.brought → AfterRounds B k n → AfterRounds B (suc k) m → Nullables B m
+  pub rounds_rest : (k : ℕ) (n m : Nullable) → m.brought ≡ n.brought → NullablesAfter B k n → NullablesAfter B (suc k) m → Nullables B m
   unfolding nullable
   rounds_rest k n m e h g = elim (cases_lt k B.symbols) [
     | inr l ↦ rounds_all (suc k) m (omega arith) g
-    | inl l ↦ λ x. within_brought k x (get_or m.brought x None)
+    | inl l ↦ λ x. subst (λ t. BroughtWhere B t x (get_or m.brought x None))
         (ap (λ f. f x) (sym (settled (next_round B) (nullable_after B) B.symbols (rounds_next B bounded) (rounds_grow B bounded) (rounds_small B bounded) k (omega arith)
         (λ y s. same y (get_or m.brought y None) (before y) (g y))))) (before x)
   ]
     where
-      before : (x : ℕ) → WithinRounds B k x (get_or m.brought x None)
-      before x = subst (λ t. WithinRounds B k x (get_or t x None)) (sym e) (h x)
+      before : (x : ℕ) → BroughtWhere B (nullable_after B k x) x (get_or m.brought x None)
+      before x = subst (λ t. BroughtWhere B (nullable_after B k x) x (get_or t x None)) (sym e) (h x)
 
-      same : (y : ℕ) (o : Option Brought) → WithinRounds B k y o → WithinRounds B (suc k) y o → nullable_after B (suc k) y ≡ nullable_after B k y
+      same : (y : ℕ) (o : Option Brought) → BroughtWhere B (nullable_after B k y) y o → BroughtWhere B (nullable_after B (suc k) y) y o → nullable_after B (suc k) y ≡ nullable_after B k y
       same y None p q = q ∙ sym p
-      same y (Some b) p q = held_on (suc b.round) (suc k) y (omega (arith, p.0)) p.1.1 ∙ sym (held_on (suc b.round) k y (omega (arith, p.0)) p.1.1)
+      same y (Some b) p q = q.0 ∙ sym p.0
 
 -- before the first round nothing is held
-pub rounds_start : (B : Binarised) (x : ℕ) → WithinRounds B 0 x (get_or (replicate 128 None) x None)
+pub rounds_start : (B : Binarised) (x : ℕ) → BroughtWhere B (nullable_after B 0 x) x (get_or (replicate 128 None) x None)
 unfolding nullable_after
-rounds_start B x = subst (λ o. WithinRounds B 0 x o) (sym (elim (cases_lt x 128) [
+rounds_start B x = subst (λ o. BroughtWhere B (nullable_after B 0 x) x o) (sym (elim (cases_lt x 128) [
   | inl l ↦ get_or-replicate 128 x None None l
   | inr g ↦ get_or_past (replicate 128 None) x None (omega (arith, length-replicate {A = Option Brought} 128 None))
 ])) refl

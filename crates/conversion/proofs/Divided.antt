@@ -1,7 +1,7 @@
 -- The steps by which binarised rules come to be those of a book.
-use Rattle.std.proofs.Common.{◌≡◌, ℕ, ◌+◌, ◌<◌, List, [], ◌∷◌, ◌++◌, map, length, get_or, drop, refl, sym, ap, ◌∙◌, subst, ap₂, add-one, arith}
-use Rattle.std.proofs.lemmas.List.{drop_more, append_assoc, append-nil, length-append, length-map, get_or-map, map_push}
-use Rattle.arrayvec.specs.ArrayVec.{array_vec_len}
+use Rattle.std.proofs.Common.{◌≡◌, ℕ, ◌+◌, ◌<◌, ◌≤◌, List, [], ◌∷◌, ◌++◌, map, length, get_or, drop, refl, sym, ap, ◌∙◌, subst, ap₂, add-one, arith}
+use Rattle.std.proofs.lemmas.List.{drop_more, append_assoc, length-append, length-map, get_or-map, map_push}
+use Rattle.arrayvec.specs.ArrayVec.{ArrayVec, array_vec_len}
 use Rattle.grammar.specs.Lists.{each, below}
 use Rattle.grammar.proofs.Lists.{length_count_up, mem_map}
 use Rattle.grammar.specs.Binarised.{Rule, rule, binary, Binarised}
@@ -10,14 +10,21 @@ use Rattle.grammar.specs.Binarise.{binarise_right, binarise_production, terminal
 use Rattle.grammar.proofs.Offers.{binarised_next, upto_length}
 use Rattle.grammar.proofs.Tails.{tails_next, tails_whole, tails_within}
 use Rattle.conversion.specs.declared.production.Production.{Production}
-use Rattle.conversion.specs.declared.right.Right.TheVariants.{Binary, Terminal}
 use Rattle.conversion.specs.declared.right.BinarisedRule.{BinarisedRule}
 use Rattle.conversion.specs.declared.binarised.BinarisedRules.{BinarisedRules}
 use Rattle.conversion.specs.Rows.{production_of}
 use Rattle.conversion.specs.Views.{rule_of}
-use Rattle.conversion.specs.Binarised.{rows_book, rules_held, grammar_of, Added, Pushed, Tailed, Room, Divided}
+use Rattle.conversion.specs.Binarised.{rows_book, grammar_of}
 use Rattle.conversion.proofs.Firsts.{get_d_mem}
 use Rattle.conversion.proofs.Each.{below_more}
+
+-- the rules held
+abbrev pub rules_held : BinarisedRules → List Rule
+rules_held b = (grammar_of b).rules
+
+-- these rules have come at the end, and so many symbols
+abbrev pub Added : BinarisedRules → BinarisedRules → List Rule → ℕ → Type 0
+Added was is more k = (rules_held is ≡ rules_held was ++ more) × (is.symbols ≡ was.symbols + k)
 
 -- the count is the number of rules
 
@@ -26,6 +33,11 @@ rules_count b = length-map b.rules.items rule_of
 
 pub added_count : (was is : BinarisedRules) (more : List Rule) (k : ℕ) → Added was is more k → array_vec_len is.rules ≡ array_vec_len was.rules + length more
 added_count was is more k a = omega (arith, rules_count was, rules_count is, ap length a.0, length-append (rules_held was) more)
+
+-- a rule after a tail
+pub tail_push : (was mid is : BinarisedRules) (r : Rule) → mid.rules ≡ was.rules → mid.symbols ≡ was.symbols + 1
+    → rules_held is ≡ rules_held mid ++ (r ∷ []) → is.symbols ≡ mid.symbols → Added was is (r ∷ []) 1
+tail_push was mid is r a b c d = (c ∙ ap (λ (v : ArrayVec BinarisedRule). map rule_of v.items ++ (r ∷ [])) a, omega arith)
 
 -- the pairs of a right side, from place k on
 
@@ -45,15 +57,15 @@ split_more x n z k ys h =
 abbrev pub Whole : BinarisedRules → ℕ → ℕ → ℕ → List ℕ → List Rule
 Whole b x n k ys = rules_held b ++ binarise_right x n b.symbols (drop k ys)
 
-pub pairs_more : (was mid is : BinarisedRules) (x n z k y t : ℕ) (ys : List ℕ) → k + 2 < length ys
-    → Tailed was mid z → Pushed mid is x n (Binary y t) → y ≡ get_or ys k 0 → t ≡ z → Whole is z n (k + 1) ys ≡ Whole was x n k ys
-pairs_more was mid is x n z k y t ys h a p f g =
+pub pairs_more : (was is : BinarisedRules) (x n z k y t : ℕ) (ys : List ℕ) → k + 2 < length ys
+    → z ≡ was.symbols → Added was is (rule x n (binary y t) ∷ []) 1 → y ≡ get_or ys k 0 → t ≡ z → Whole is z n (k + 1) ys ≡ Whole was x n k ys
+pairs_more was is x n z k y t ys h a p f g =
     let m = rule x n (binary (get_or ys k 0) z) in
-    let s : is.symbols ≡ z + 1 = omega (arith, a.0.1, a.1, p.1) in
-    let last : rules_held is ≡ rules_held was ++ (m ∷ []) = p.0 ∙ ap₂ (λ l o. l ++ (rule x n o ∷ [])) (a.0.0 ∙ append-nil (rules_held was)) (ap₂ binary f g) in
+    let s : is.symbols ≡ z + 1 = omega (arith, a, p.1) in
+    let last : rules_held is ≡ rules_held was ++ (m ∷ []) = p.0 ∙ ap (λ o. rules_held was ++ (rule x n o ∷ [])) (ap₂ binary f g) in
     ap₂ (λ l j. l ++ binarise_right z n j (drop (k + 1) ys)) last s
     ∙ append_assoc (rules_held was) (m ∷ []) (binarise_right z n (z + 1) (drop (k + 1) ys))
-    ∙ ap (λ l. rules_held was ++ l) (sym (split_more x n z k ys h) ∙ ap (λ j. binarise_right x n j (drop k ys)) a.1)
+    ∙ ap (λ l. rules_held was ++ l) (sym (split_more x n z k ys h) ∙ ap (λ j. binarise_right x n j (drop k ys)) a)
 
 -- the tails of the productions before one
 
@@ -76,7 +88,8 @@ unfolding tails_before
 upto_none W rules e = (ap (map rule_of) e, refl)
 
 pub upto_room : (rows : List Production) (T n : ℕ) (b : BinarisedRules) (p : Production) → Sound (rows_book rows T)
-    → n < length rows → p ≡ get_or rows n p → Upto (rows_book rows T) n b → Room b (production_of p).right
+    → n < length rows → p ≡ get_or rows n p → Upto (rows_book rows T) n b
+    → (array_vec_len b.rules + tails (production_of p).right < 160) × (b.symbols + tails (production_of p).right ≤ 128)
 upto_room rows T n b p sound h e u =
     let W = rows_book rows T in
     let right : tails (right_of W n) ≡ tails (production_of p).right = ap (λ q. tails q.right) (production_at rows T n p h e) in
@@ -91,7 +104,7 @@ head_small rows T n p sound h e =
     omega (arith, l, ap (λ (q : Production). q.head) e)
 
 pub upto_more : (rows : List Production) (T n : ℕ) (was is : BinarisedRules) (p : Production) → n < length rows → p ≡ get_or rows n p
-    → Upto (rows_book rows T) n was → Divided was is (production_of p).head n (production_of p).right → Upto (rows_book rows T) (n + 1) is
+    → Upto (rows_book rows T) n was → Added was is (binarise_right (production_of p).head n was.symbols (production_of p).right) (tails (production_of p).right) → Upto (rows_book rows T) (n + 1) is
 upto_more rows T n was is p h e u d =
     let W = rows_book rows T in
     let at = production_at rows T n p h e in
@@ -117,7 +130,7 @@ beyond_count rows T t b sound h e =
     let all = each (binarise_production W) (below n) in
     omega (arith, rules_count b, ap length e.0, length-append all (map terminal_rule (below t)), upto_length W n, tails_whole W, length-map rows production_of, length-map (below t) terminal_rule, length_count_up 0 t, sound.few_patterns, sound.few_rules, sound.few_tails)
 
-pub beyond_more : (W : Book) (t : ℕ) (was is : BinarisedRules) → Beyond W t was → Pushed was is (32 + t) 255 (Terminal t) → Beyond W (t + 1) is
+pub beyond_more : (W : Book) (t : ℕ) (was is : BinarisedRules) → Beyond W t was → Added was is (terminal_rule t ∷ []) 0 → Beyond W (t + 1) is
 beyond_more W t was is e p =
     let all = each (binarise_production W) (below (length W.productions)) in (
       p.0 ∙ ap (λ l. l ++ (terminal_rule t ∷ [])) e.0 ∙ append_assoc all (map terminal_rule (below t)) (terminal_rule t ∷ [])

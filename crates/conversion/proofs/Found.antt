@@ -1,5 +1,5 @@
 -- The steps by which the strict rules of a grammar are found.
-use Rattle.std.proofs.Common.{◌≡◌, ℕ, zero, suc, ◌+◌, ◌<◌, ◌≤◌, Bool, true, false, cond, ◌||◌, eqb, leb, List, [], ◌∷◌, ◌++◌, map, length, get_or, take, sym, refl, ap, ◌∙◌, subst, ap₂, inl, inr, arith}
+use Rattle.std.proofs.Common.{◌≡◌, ℕ, zero, suc, ◌+◌, ◌<◌, ◌≤◌, Bool, true, false, cond, ◌||◌, eqb, leb, List, [], ◌∷◌, ◌++◌, map, length, get_or, take, is_some, sym, refl, ap, ◌∙◌, subst, ap₂, inl, inr, arith}
 use Rattle.std.proofs.lemmas.List.{append_assoc, append-nil, map-append, length-append, length-map, length-take, map_push, take_all, take-append-le, take_more}
 use Rattle.std.proofs.Math.Bool.{or-false}
 use Rattle.std.proofs.lemmas.Bool.{le-leb, lt-leb, cases_lt, eq-eqb, ne_eqb}
@@ -9,13 +9,36 @@ use Rattle.grammar.specs.Binarised.{Rule, Binarised, OwnRule, rules_in, rules_of
 use Rattle.grammar.specs.Nullable.{nullable}
 use Rattle.grammar.specs.Chains.{ChainStep, steps_by, steps, within, reached}
 use Rattle.grammar.specs.Strict.{StrictFormRule, proper, strict_rule, strict_rules_of, strict_rules}
+use Rattle.conversion.specs.declared.right.Right.{Right}
 use Rattle.conversion.specs.declared.right.BinarisedRule.{BinarisedRule}
 use Rattle.conversion.specs.declared.chain.Chains.{Chains}
 use Rattle.conversion.specs.declared.strict.StrictRules.{StrictRules}
 use Rattle.conversion.specs.Views.{right_side_of, rule_of, binarised_of}
-use Rattle.conversion.specs.Found.{linked, Reached, proper_right, Holds, Appends, by_end, by_ends}
+use Rattle.conversion.specs.Linked.{link, ChosenChains}
+use Rattle.conversion.specs.Found.{Holds}
 use Rattle.conversion.proofs.Firsts.{own_append}
 use Rattle.conversion.proofs.Each.{each_those, each_more, each_same, each_shorter}
+use Rattle.conversion.proofs.Walking.{link_leads}
+
+-- the table has a chain from x to y
+abbrev pub linked : Chains → ℕ → ℕ → Bool
+linked c x y = is_some (link c x y)
+
+-- the right side of a strict rule
+abbrev pub proper_right : Right → Bool
+proper_right r = proper (right_side_of r)
+
+-- whatever list it held, it holds that with these at the end
+abbrev pub Appends : StrictRules → StrictRules → List StrictFormRule → Type 0
+Appends was is more = (l : List StrictFormRule) → Holds l was → Holds (l ++ more) is
+
+-- the strict rules of x by the rules of y
+abbrev pub by_end : List BinarisedRule → ℕ → ℕ → List StrictFormRule
+by_end rules x y = map (strict_rule x y) (those (λ (o : OwnRule). proper o.1) (rules_in y (map rule_of rules)))
+
+-- the strict rules of x by the rules of the first n symbols, as far as the table has a chain there
+unfoldable pub by_ends : List BinarisedRule → Chains → ℕ → ℕ → List StrictFormRule
+by_ends rules c x n = each (by_end rules x) (those (linked c x) (below n))
 
 -- one more, or no room for it
 
@@ -113,20 +136,8 @@ by_ends_more rules c x n =
 
 -- symbol by symbol
 
--- the strict rules of the first n symbols, as far as the table has chains to the first m
-unfoldable pub by_symbols : List BinarisedRule → Chains → ℕ → ℕ → List StrictFormRule
-by_symbols rules c m n = each (λ x. by_ends rules c x m) (below n)
-
-pub by_symbols_none : (rules : List BinarisedRule) (c : Chains) (m : ℕ) → by_symbols rules c m 0 ≡ []
-unfolding by_symbols
-by_symbols_none rules c m = refl
-
-pub found_none : {A B : Type 0} (f : A → B) (xs : List A) (l : List B) → xs ≡ [] → l ≡ [] → (map f xs ≡ take 1024 l) × (true ≡ leb (length l) 1024)
-found_none f xs l e k = (ap (map f) e ∙ ap (take 1024) (sym k), ap (λ m. leb (length m) 1024) (sym k))
-
-pub by_symbols_more : (rules : List BinarisedRule) (c : Chains) (m n : ℕ) → by_symbols rules c m (n + 1) ≡ by_symbols rules c m n ++ by_ends rules c n m
-unfolding by_symbols
-by_symbols_more rules c m n = each_more (λ x. by_ends rules c x m) n
+pub found_none : {A B : Type 0} (f : A → B) (xs : List A) → xs ≡ [] → (map f xs ≡ []) × (true ≡ true)
+found_none f xs e = (ap (map f) e, refl)
 
 -- all symbols: those without rules give nothing
 
@@ -163,14 +174,20 @@ own_of : (rules : List BinarisedRule) (S y : ℕ) → rules_of (binarised_of rul
 unfolding rules_of
 own_of rules S y = refl
 
-module _ (rules : List BinarisedRule) (c : Chains) (S : ℕ) (bounded : Bounded (binarised_of rules S)) (table : Reached (binarised_of rules S) c) (N : ℕ) (few : N ≤ 128) where
+module _ (rules : List BinarisedRule) (c : Chains) (S : ℕ) (bounded : Bounded (binarised_of rules S)) (chosen : ChosenChains (binarised_of rules S) c) (N : ℕ) (few : N ≤ 128) where
   abbrev B : Binarised
   B = binarised_of rules S
+
+  table : (x y : ℕ) → x < 128 → y < 128 → linked c x y ≡ within B y S x
+  table = link_leads B c chosen
+
+  alone : (x y : ℕ) → S ≤ x → (x ≡ y → ⊥) → within B y S x ≡ false
+  alone x y h ne = within_none B x y S (steps_none B x (own_of rules S x ∙ own_past rules S x bounded h)) ∙ ne_eqb x y ne
 
   symbol_past : (x : ℕ) → S ≤ x → x < N → by_ends rules c x N ≡ []
   symbol_past x h l = by_ends_are rules c x N ∙ each_shorter (by_link rules c x) 0 N (omega arith) (λ y a k. elim (cases_lt y S) [
     | inl j ↦ ap (λ b. cond b (by_end rules x y) [])
-        (table x y (omega arith) (omega arith) ∙ within_none B x y S (steps_none B x (own_of rules S x ∙ own_past rules S x bounded h)) ∙ ne_eqb x y (λ e. omega arith))
+        (table x y (omega arith) (omega arith) ∙ alone x y h (λ e. omega arith))
     | inr j ↦ by_link_past rules c S x y bounded j
   ])
 
@@ -183,8 +200,18 @@ module _ (rules : List BinarisedRule) (c : Chains) (S : ℕ) (bounded : Bounded 
       (λ y k. ap (λ b. cond b (by_end rules x y) []) (table x y (omega arith) (omega arith)))
       ∙ sym (each_those (by_end rules x) (λ y. within B y S x) (below S))
 
+  -- a symbol past the bound has no strict rules
+  strict_past : (x : ℕ) → S ≤ x → strict_rules_of B x ≡ []
+  unfolding strict_rules_of reached rules_of
+  strict_past x h =
+      each_those (by_end rules x) (λ y. within B y S x) (below S)
+      ∙ each_shorter (λ y. cond (within B y S x) (by_end rules x y) []) 0 S (omega arith) (λ y a k. ap (λ b. cond b (by_end rules x y) []) (alone x y h (λ e. omega arith)))
+
+  -- what is found of a symbol is its strict rules
+  pub symbol_found : (x : ℕ) → S ≤ N → x < N → by_ends rules c x N ≡ strict_rules_of B x
+  symbol_found x s l = elim (cases_lt x S) [ inl h ↦ symbol_is x s h | inr h ↦ symbol_past x h l ∙ sym (strict_past x h) ]
+
   -- what is found is the grammar's strict rules
-  pub strict_rules_found : S ≤ N → by_symbols rules c N N ≡ strict_rules B
-  unfolding by_symbols strict_rules
-  strict_rules_found s =
-      each_shorter (λ x. by_ends rules c x N) S N s (λ x a k. symbol_past x a k) ∙ each_same (λ x. by_ends rules c x N) (strict_rules_of B) S (λ x k. symbol_is x s k)
+  pub strict_rules_found : S ≤ N → each (strict_rules_of B) (below N) ≡ strict_rules B
+  unfolding strict_rules
+  strict_rules_found s = each_shorter (strict_rules_of B) S N s (λ x a k. strict_past x a)

@@ -6,7 +6,7 @@ use Rattle.grammar.specs.Binarise.{binarised}
 use Rattle.grammar.proofs.BinarisedRules.{binarised_within}
 use Rattle.conversion.specs.declared.binarised.BinarisedRules.{BinarisedRules}
 use Rattle.conversion.specs.Binarised.{grammar_of}
-use Rattle.conversion.specs.Linked.{EndsBelow}
+use Rattle.conversion.specs.Rounds.{EndsBelow}
 use Rattle.conversion.proofs.Walking.{ends_below}
 
 -- where these are the binarised rules of a sound book, each unit step leads to one of their symbols

@@ -1,5 +1,5 @@
 -- A round of chains, step by step, and when the rounds may stop.
-use Rattle.std.proofs.Common.{◌≡◌, ℕ, zero, suc, ◌+◌, ◌<◌, ◌≤◌, Bool, true, false, cond, not, ◌&&◌, ◌||◌, eqb, ◌⊎◌, List, [], ◌∷◌, ◌++◌, map, length, get_or, take, Some, None, Option, sym, refl, ap, ◌∙◌, subst, inl, inr, arith}
+use Rattle.std.proofs.Common.{◌≡◌, ℕ, zero, suc, ◌+◌, ◌<◌, ◌≤◌, Bool, true, false, cond, not, ◌&&◌, ◌||◌, eqb, ◌⊎◌, List, [], ◌∷◌, ◌++◌, map, length, get_or, take, is_some, Some, None, Option, sym, refl, ap, ◌∙◌, subst, inl, inr, arith}
 use mathlib.Core.Path.{fun_ext}
 use Rattle.std.proofs.lemmas.List.{append-nil, map_more}
 use Rattle.std.proofs.lemmas.Bool.{true≢false, both_ways, cases_Bool, cases_eq, cases_lt, lt-ltb, le-ltb, eqb-true, or_left, or_right, or_from}
@@ -10,13 +10,15 @@ use Rattle.grammar.proofs.Lists.{mem_map, some_gives, those_append, those_mem}
 use Rattle.grammar.proofs.Rounds.{in_the_end, settled}
 use Rattle.grammar.proofs.Chains.{within_next, within_grows, within_self, within_small}
 use Rattle.conversion.specs.Views.{step_of}
-use Rattle.conversion.specs.Linked.{all_steps, EndsBelow, link, leads, shorter, extended, Shortest, WithinSteps, AfterSteps, Chosen, ChosenChains}
+use Rattle.conversion.specs.Linked.{link, Shortest, ChosenWhere, ChainsWithin, ChosenChains}
+use Rattle.conversion.specs.Rounds.{all_steps, EndsBelow, shorter}
 use Rattle.conversion.specs.declared.chain.UnitStep.{UnitStep}
 use Rattle.conversion.specs.declared.chain.Chain.{Chain}
 use Rattle.conversion.specs.declared.chain.Chain.TheVariants.{Empty, Steps}
 use Rattle.conversion.specs.declared.chain.Chains.{Chains}
 use Rattle.conversion.proofs.Firsts.{some_append, first_append, get_d_mem}
 use Rattle.conversion.proofs.Stepping.{starts, own_steps}
+use Rattle.conversion.proofs.Linking.{extended}
 
 -- a chain of at most j steps leads to y from where the step ends
 abbrev pub near : Binarised → ℕ → ℕ → ChainStep → Bool
@@ -38,17 +40,23 @@ within_on B y k zero x h t = let e : k ≡ 0 = omega arith in subst (λ i. withi
 within_on B y k (suc m) x h t = elim (cases_eq k (suc m))
     [ inl e ↦ subst (λ i. within B y i x ≡ true) e t | inr n ↦ within_grows B y m x (within_on B y k m x (omega arith) t) ]
 
-between_start : (B : Binarised) (j x y : ℕ) (o : Option Chain) → WithinSteps B j x y o → Between B j x y [] o
+-- the chosen chain is no longer than one that leads there
+steps_most : (B : Binarised) (j x y k : ℕ) (s : UnitStep) → within B y j x ≡ true → Shortest B x y k s → k ≤ j
+steps_most B j x y k s t h = elim (cases_lt h.0 j) [ inl l ↦ omega (arith, h.1) | inr g ↦ absurd (both_ways _ h.2 (within_on B y j h.0 x g t)) ]
+
+between_start : (B : Binarised) (j x y : ℕ) (o : Option Chain) → ChosenWhere B (within B y j x) x y o → Between B j x y [] o
 between_start B j x y None h = (h, refl)
 between_start B j x y (Some Empty) h = h
-between_start B j x y (Some (Steps k s)) h = inl h
+between_start B j x y (Some (Steps k s)) h = inl (steps_most B j x y k s h.0 h.1, h.1)
 
-between_end : (B : Binarised) (j x y : ℕ) (o : Option Chain) → Between B j x y (steps B x) o → WithinSteps B (suc j) x y o
+between_end : (B : Binarised) (j x y : ℕ) (o : Option Chain) → Between B j x y (steps B x) o → ChosenWhere B (within B y (suc j) x) x y o
 unfolding within
 between_end B j x y None h = or_from (within B y j x) _ h.0 h.1
 between_end B j x y (Some Empty) h = h
-between_end B j x y (Some (Steps k s)) (inl h) = (omega (arith, h.0), h.1)
-between_end B j x y (Some (Steps k s)) (inr h) = (omega (arith, h.0), (j, h.0, h.1, or_right (within B y j x) _ h.2, h.3))
+between_end B j x y (Some (Steps k s)) (inl h) = (within_on B y (suc h.1.0) (suc j) x (omega (arith, h.0, h.1.1)) h.1.3, h.1)
+between_end B j x y (Some (Steps k s)) (inr h) =
+    let t : within B y (suc j) x ≡ true = or_right (within B y j x) _ h.2 in
+    (t, (j, h.0, h.1, t, h.3))
 
 -- in a round after j, a chain of at most j steps is one that is shorter than the round's
 between_shorter : (B : Binarised) (j x y : ℕ) (os : List ChainStep) (o : Option Chain) → Between B j x y os o → shorter (suc j) o ≡ within B y j x
@@ -73,7 +81,7 @@ between_kept B j x y os es k s (inr h) =
 
 -- one step more from x
 between_more : (B : Binarised) (j x y : ℕ) (os : List ChainStep) (s : UnitStep) (e q : Bool) (o : Option Chain) → q ≡ near B y j (step_of s) → Between B j x y os o
-    → Between B j x y (os ++ cond e (step_of s ∷ []) []) (cond (e && (not (leads o) && q)) (Some (Steps (suc j) s)) o)
+    → Between B j x y (os ++ cond e (step_of s ∷ []) []) (cond (e && (not (is_some o) && q)) (Some (Steps (suc j) s)) o)
 between_more B j x y os s false q o n h = subst (λ l. Between B j x y l o) (sym (append-nil os)) h
 between_more B j x y os s true q (Some Empty) n h = h
 between_more B j x y os s true q (Some (Steps k t)) n h = between_kept B j x y os (step_of s ∷ []) k t h
@@ -90,10 +98,10 @@ between_more B j x y os s true true None n h =
     )
 
 module _ (B : Binarised) (j : ℕ) where
-  pub chains_start : (c : Chains) → AfterSteps B j c → TableBetween B j [] c
+  pub chains_start : (c : Chains) → ChainsWithin B j c → TableBetween B j [] c
   chains_start c h x y a b = between_start B j x y (link c x y) (h x y a b)
 
-  pub chains_end : (c : Chains) → TableBetween B j (all_steps B) c → AfterSteps B (suc j) c
+  pub chains_end : (c : Chains) → TableBetween B j (all_steps B) c → ChainsWithin B (suc j) c
   chains_end c h x y a b = between_end B j x y (link c x y) (subst (λ l. Between B j x y l (link c x y)) (own_steps B x) (h x y a b))
 
   -- one step more of the list
@@ -174,34 +182,28 @@ module _ (B : Binarised) (bounded : Bounded B) (ends : EndsBelow B) where
     ]
   ]
 
-  chosen_from : (n x y : ℕ) (o : Option Chain) → within B y n x ≡ within B y B.symbols x → WithinSteps B n x y o → Chosen B x y o
-  chosen_from n x y None e h = sym e ∙ h
-  chosen_from n x y (Some Empty) e h = h
-  chosen_from n x y (Some (Steps k s)) e h = (sym e ∙ within_on B y (suc h.1.0) n x (omega (arith, h.0, h.1.1)) h.1.3, h.1)
-
   -- as many rounds as symbols but one, or more
-  pub chains_all : (n : ℕ) (c : Chains) → B.symbols ≤ suc n → AfterSteps B n c → ChosenChains B c
-  chains_all n c l h x y a b = chosen_from n x y (link c x y) (steady y n x l) (h x y a b)
+  pub chains_all : (n : ℕ) (c : Chains) → B.symbols ≤ suc n → ChainsWithin B n c → ChosenChains B c
+  chains_all n c l h x y a b = subst (λ t. ChosenWhere B t x y (link c x y)) (steady y n x l) (h x y a b)
 
   -- a round that leaves the table as it was is the last
-  pub chains_rest : (j : ℕ) (c d : Chains) → B.symbols ≤ 128 → d.links ≡ c.links → AfterSteps B j c → AfterSteps B (suc j) d → ChosenChains B d
+  pub chains_rest : (j : ℕ) (c d : Chains) → B.symbols ≤ 128 → d.links ≡ c.links → ChainsWithin B j c → ChainsWithin B (suc j) d → ChosenChains B d
   chains_rest j c d l e h g = elim (cases_lt j B.symbols) [
     | inr big ↦ chains_all (suc j) d (omega arith) g
-    | inl small ↦ λ x y a b. chosen_from j x y (link d x y) (elim (cases_lt y B.symbols) [
+    | inl small ↦ λ x y a b. subst (λ t. ChosenWhere B t x y (link d x y)) (elim (cases_lt y B.symbols) [
       | inr past ↦ past_reached y j x past ∙ sym (past_reached y B.symbols x past)
       | inl y< ↦ ap (λ f. f x) (sym (settled (nearer B) (within B y) B.symbols (within_next B y) (within_grows B y) (within_small B bounded y y<) j (omega arith)
           (λ z z<. same z y (link d z y) (before z y (omega arith) b) (g z y (omega arith) b))))
     ]) (before x y a b)
   ]
     where
-      before : AfterSteps B j d
-      before x y a b = subst (λ t. WithinSteps B j x y (get_or (get_or t x []) y None)) (sym e) (h x y a b)
+      before : ChainsWithin B j d
+      before x y a b = subst (λ t. ChosenWhere B (within B y j x) x y (get_or (get_or t x []) y None)) (sym e) (h x y a b)
 
-      same : (x y : ℕ) (o : Option Chain) → WithinSteps B j x y o → WithinSteps B (suc j) x y o → within B y (suc j) x ≡ within B y j x
+      same : (x y : ℕ) (o : Option Chain) → ChosenWhere B (within B y j x) x y o → ChosenWhere B (within B y (suc j) x) x y o → within B y (suc j) x ≡ within B y j x
       same x y None p q = q ∙ sym p
       same x y (Some Empty) p q = subst (λ z. within B z (suc j) x ≡ within B z j x) p (within_self B x (suc j) ∙ sym (within_self B x j))
-      same x y (Some (Steps k s)) p q =
-          within_on B y (suc p.1.0) (suc j) x (omega (arith, p.0, p.1.1)) p.1.3 ∙ sym (within_on B y (suc p.1.0) j x (omega (arith, p.0, p.1.1)) p.1.3)
+      same x y (Some (Steps k s)) p q = q.0 ∙ sym p.0
 
 -- the turn of a round: the first steps of the list are done
 pub round_turn : (B : Binarised) (j : ℕ) (list : List UnitStep) (i : ℕ) (d : UnitStep) (c n : Chains) → B.symbols ≤ 128 → EndsBelow B → map step_of list ≡ all_steps B → i < length list

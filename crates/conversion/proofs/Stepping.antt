@@ -6,7 +6,7 @@ use Rattle.grammar.proofs.Lists.{those_append}
 use Rattle.grammar.specs.Binarised.{Right as RightSide, empty, unit, binary, terminal, Rule, Binarised, OwnRule, rules_in, rules_of}
 use Rattle.grammar.specs.Nullable.{nullable}
 use Rattle.grammar.specs.Chains.{Dropped as Drop, nothing, the_right, the_left, ChainStep, unit_step, steps_by, steps}
-use Rattle.conversion.specs.Linked.{all_steps}
+use Rattle.conversion.specs.Rounds.{all_steps}
 
 -- a step begins at x
 abbrev pub starts : ℕ → ChainStep → Bool

@@ -1,5 +1,5 @@
 -- What the tables of nullable symbols and chosen chains say of the chosen blank trees and chains, one node or step at a time.
-use Rattle.std.proofs.Common.{◌≡◌, ℕ, zero, suc, ◌<◌, ◌≤◌, Bool, true, false, cond, [], ◌∷◌, length, get_or, Some, None, Option, sym, refl, ap, ◌∙◌, subst, ap₂, inl, inr, arith}
+use Rattle.std.proofs.Common.{◌≡◌, ℕ, zero, suc, ◌<◌, ◌≤◌, Bool, true, false, cond, [], ◌∷◌, length, get_or, is_some, Some, None, Option, sym, refl, ap, ◌∙◌, subst, ap₂, inl, inr, arith}
 use Rattle.std.proofs.lemmas.Bool.{both_ways, cases_lt, lt-ltb, or_cases, and_parts}
 use Rattle.grammar.specs.Binarise.{Within}
 use Rattle.grammar.specs.Lists.{Mem}
@@ -12,7 +12,8 @@ use Rattle.grammar.proofs.Nullable.{nullable_kept}
 use Rattle.grammar.proofs.Chains.{chain_in_leads, chain_in_length, chain_kept, within_grows, within_length, within_next, within_self, within_small}
 use Rattle.conversion.specs.Views.{right_side_of, step_of}
 use Rattle.conversion.specs.Held.{Brings, BroughtIn, Nullables}
-use Rattle.conversion.specs.Linked.{EndsBelow, link, leads, shorter, Shortest, Chosen, ChosenChains}
+use Rattle.conversion.specs.Linked.{link, Shortest, Chosen, ChosenChains}
+use Rattle.conversion.specs.Rounds.{EndsBelow, shorter}
 use Rattle.conversion.specs.declared.nullable.Brought.{Brought}
 use Rattle.conversion.specs.declared.nullable.Nullable.{Nullable}
 use Rattle.conversion.specs.declared.chain.UnitStep.{UnitStep}
@@ -128,10 +129,10 @@ link_self B c h x a = at (link c x x) (h x x a a)
     at (Some (Steps k s)) p = absurd (both_ways _ p.1.2 (within_self B x p.1.0))
 
 -- a chain is in the table exactly if one leads
-pub link_leads : (B : Binarised) (c : Chains) → ChosenChains B c → (x y : ℕ) → x < 128 → y < 128 → leads (link c x y) ≡ within B y B.symbols x
+pub link_leads : (B : Binarised) (c : Chains) → ChosenChains B c → (x y : ℕ) → x < 128 → y < 128 → is_some (link c x y) ≡ within B y B.symbols x
 link_leads B c h x y a b = at (link c x y) (h x y a b)
   where
-    at : (o : Option Chain) → Chosen B x y o → leads o ≡ within B y B.symbols x
+    at : (o : Option Chain) → Chosen B x y o → is_some o ≡ within B y B.symbols x
     at None p = sym p
     at (Some Empty) p = sym (subst (λ z. within B z B.symbols x ≡ true) p (within_self B x B.symbols))
     at (Some (Steps k s)) p = sym p.0

@@ -1,5 +1,5 @@
 -- What a table of nullable symbols says.
-use Rattle.std.specs.Prelude.{◌≡◌, ℕ, suc, ◌<◌, Bool, true, false, Some, None, Option, nat_lt, slice_index_or}
+use Rattle.std.specs.Prelude.{◌≡◌, ℕ, suc, Bool, true, false, Some, None, Option, slice_index_or}
 use Rattle.grammar.specs.Binarised.{Binarised}
 use Rattle.grammar.specs.Nullable.{nullable_after, nullable, first_ready}
 use Rattle.conversion.specs.Views.{right_side_of}
@@ -10,25 +10,19 @@ use Rattle.conversion.specs.declared.nullable.Nullable.{Nullable}
 abbrev pub Brings : Binarised → ℕ → Brought → Type 0
 Brings B x b = (nullable_after B b.round x ≡ false) × (nullable_after B (suc b.round) x ≡ true) × ((b.number, right_side_of b.right) ≡ first_ready B (nullable_after B b.round) x)
 
--- x came in within k rounds, and how
-abbrev pub WithinRounds : Binarised → ℕ → ℕ → Option Brought → Type 0
-WithinRounds B k x None = nullable_after B k x ≡ false
-WithinRounds B k x (Some b) = (b.round < k) × Brings B x b
+-- where x is held, what brought it in; else nothing
+abbrev pub BroughtWhere : Binarised → Bool → ℕ → Option Brought → Type 0
+BroughtWhere B h x None = h ≡ false
+BroughtWhere B h x (Some b) = (h ≡ true) × Brings B x b
 
--- the table after k rounds
-abbrev pub AfterRounds : Binarised → ℕ → Nullable → Type 0
-AfterRounds B k n = (x : ℕ) → WithinRounds B k x (slice_index_or n.brought x None)
+-- the table of the symbols found nullable in k rounds
+abbrev pub NullablesAfter : Binarised → ℕ → Nullable → Type 0
+NullablesAfter B k n = (x : ℕ) → BroughtWhere B (nullable_after B k x) x (slice_index_or n.brought x None)
 
--- x is nullable, and what brought it in
+-- where x is nullable, what brought it in; else nothing
 abbrev pub BroughtIn : Binarised → ℕ → Option Brought → Type 0
-BroughtIn B x None = nullable B x ≡ false
-BroughtIn B x (Some b) = (nullable B x ≡ true) × Brings B x b
+BroughtIn B x o = BroughtWhere B (nullable B x) x o
 
 -- the table of the nullable symbols
 abbrev pub Nullables : Binarised → Nullable → Type 0
 Nullables B n = (x : ℕ) → BroughtIn B x (slice_index_or n.brought x None)
-
--- a round before k brought it in
-abbrev pub sooner : ℕ → Option Brought → Bool
-sooner k None = false
-sooner k (Some b) = nat_lt b.round k

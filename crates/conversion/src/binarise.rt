@@ -1,10 +1,12 @@
 // Binarised rules from productions.
-ghost use Rattle.std.specs.Prelude.{◌≡◌, ◌<◌, ◌≤◌, length};
+ghost use Rattle.std.specs.Prelude.{◌≡◌, ◌+◌, ◌<◌, ◌≤◌, [], ◌∷◌, ◌++◌, length};
 ghost use Rattle.arrayvec.specs.ArrayVec.{array_vec_len};
-ghost use Rattle.grammar.specs.Productions.{Sound};
-ghost use Rattle.grammar.specs.Binarise.{binarised};
+ghost use Rattle.grammar.specs.Productions.{Sound, tails};
+ghost use Rattle.grammar.specs.Binarised.{rule};
+ghost use Rattle.grammar.specs.Binarise.{binarise_right, binarised, one_item};
 ghost use Rattle.conversion.specs.Rows.{production_of};
-ghost use Rattle.conversion.specs.Binarised.{rows_book, grammar_of, Pushed, Tailed, Room, Divided, Single};
+ghost use Rattle.conversion.specs.Binarised.{rows_book, grammar_of};
+ghost use Rattle.conversion.specs.Views.{right_side_of};
 
 use crate::binarised::BinarisedRules;
 use crate::production::Production;
@@ -16,7 +18,8 @@ impl BinarisedRules {
     fn push(&mut self, left: u8, number: u8, right: Right)
         requires room { array_vec_len self.old.rules < 160 }
         requires bounded { left < self.old.symbols }
-        ensures { Pushed self.old self.new left number right }
+        ensures rules { (grammar_of self.new).rules ≡ (grammar_of self.old).rules ++ (rule left number (right_side_of right) ∷ []) }
+        ensures symbols { self.new.symbols ≡ self.old.symbols }
     {
         self.rules.push(BinarisedRule {
             left,
@@ -28,7 +31,9 @@ impl BinarisedRules {
     // The next tail.
     fn tail(&mut self) -> u8
         requires { self.old.symbols < 128 }
-        ensures { Tailed self.old self.new result }
+        ensures is { result ≡ self.old.symbols }
+        ensures symbols { self.new.symbols ≡ self.old.symbols + 1 }
+        ensures rules { self.new.rules ≡ self.old.rules }
     {
         let tail = self.symbols;
         self.symbols = tail + 1;
@@ -39,9 +44,11 @@ impl BinarisedRules {
     // last one the last two items. These two by their places: what is promised is said of one list of items.
     fn pairs(&mut self, head: u8, number: u8, items: &[u8])
         requires several { 2 ≤ length items.now }
-        requires room { Room self.old items.now }
+        requires room { array_vec_len self.old.rules + tails items.now < 160 }
+        requires tails { self.old.symbols + tails items.now ≤ 128 }
         requires head { head < 64 }
-        ensures { Divided self.old self.new head number items.now }
+        ensures rules { (grammar_of self.new).rules ≡ (grammar_of self.old).rules ++ binarise_right head number self.old.symbols items.now }
+        ensures symbols { self.new.symbols ≡ self.old.symbols + tails items.now }
     {
         let last = items.len() - 2;
         let mut left = head;
@@ -55,9 +62,11 @@ impl BinarisedRules {
 
     // The rules of one production.
     fn production(&mut self, number: u8, production: &Production)
-        requires room { Room self.old (production_of production.now).right }
+        requires room { array_vec_len self.old.rules + tails (production_of production.now).right < 160 }
+        requires tails { self.old.symbols + tails (production_of production.now).right ≤ 128 }
         requires head { (production_of production.now).head < 64 }
-        ensures { Divided self.old self.new (production_of production.now).head number (production_of production.now).right }
+        ensures rules { (grammar_of self.new).rules ≡ (grammar_of self.old).rules ++ binarise_right (production_of production.now).head number self.old.symbols (production_of production.now).right }
+        ensures symbols { self.new.symbols ≡ self.old.symbols + tails (production_of production.now).right }
     {
         let items = production.right();
         match items {
@@ -70,7 +79,7 @@ impl BinarisedRules {
 
 // The right side of one item: a head's symbol, or a pattern. A function and no From, since only some bytes are items.
 fn single(item: u8) -> Right
-    ensures { Single item result }
+    ensures { right_side_of result ≡ one_item item }
 {
     if item < 32 {
         Right::Unit(item)

@@ -1,9 +1,10 @@
 // Chosen chains by rounds: round k finds the pairs of symbols whose shortest chain has k steps.
-ghost use Rattle.std.specs.Prelude.{◌≡◌, ℕ, suc, ◌<◌, ◌≤◌, false, ◌&&◌, [], map, if◌then◌else◌, Some, None, ◌==◌, nat_eq, slice_index_or};
+ghost use Rattle.std.specs.Prelude.{◌≡◌, ℕ, suc, ◌<◌, ◌≤◌, false, not, ◌&&◌, [], map, if◌then◌else◌, is_some, Some, None, ◌==◌, nat_eq, slice_index_or};
 ghost use Rattle.grammar.specs.Binarised.{Binarised};
 ghost use Rattle.conversion.specs.Binarised.{grammar_of};
 ghost use Rattle.conversion.specs.Held.{Nullables};
-ghost use Rattle.conversion.specs.Linked.{AfterSteps, ChosenChains, EndsBelow, all_steps, extended, leads, link, shorter};
+ghost use Rattle.conversion.specs.Linked.{ChainsWithin, ChosenChains, link};
+ghost use Rattle.conversion.specs.Rounds.{EndsBelow, all_steps, shorter};
 ghost use Rattle.conversion.specs.Views.{step_of};
 
 use crate::binarised::BinarisedRules;
@@ -44,7 +45,7 @@ impl Chains {
 
     // Whether a chain leads from one symbol to another.
     pub(crate) fn reaches(&self, from: u8, to: u8) -> bool
-        ensures { result ≡ leads (link self.now from to) }
+        ensures { result ≡ is_some (link self.now from to) }
     {
         self.get(from, to).is_some()
     }
@@ -62,7 +63,7 @@ impl Chains {
 
     // The chains of so many steps that begin with this step. Whether there was a new one.
     fn extend(&mut self, step: UnitStep, steps: u8) -> bool
-        ensures more { (x y : ℕ) → x < 128 → y < 128 → link self.new x y ≡ extended steps step self.old x y }
+        ensures more { (x y : ℕ) → x < 128 → y < 128 → link self.new x y ≡ (if step.from == x && (not (is_some (link self.old x y)) && shorter steps (link self.old step.to y)) then Some (Chain.Steps steps step) else link self.old x y) }
         ensures rest { result ≡ false → self.new.links ≡ self.old.links }
     {
         let mut grew = false;
@@ -78,7 +79,7 @@ impl Chains {
 
     // The chains of so many steps: the first step in the list that begins one begins the chosen one.
     fn round(&mut self, list: &[UnitStep], steps: u8) -> bool
-        ensures more { (B : Binarised) (j : ℕ) → steps ≡ suc j → B.symbols ≤ 128 → EndsBelow B → map step_of list.now ≡ all_steps B → AfterSteps B j self.old → AfterSteps B steps self.new }
+        ensures more { (B : Binarised) (j : ℕ) → steps ≡ suc j → B.symbols ≤ 128 → EndsBelow B → map step_of list.now ≡ all_steps B → ChainsWithin B j self.old → ChainsWithin B steps self.new }
         ensures rest { result ≡ false → self.new.links ≡ self.old.links }
     {
         let mut grew = false;

@@ -1,12 +1,14 @@
 // The strict form of a list of productions.
-ghost use Rattle.std.specs.Prelude.{◌≡◌, ◌≤◌, [], ◌∷◌, None, slice_index_or};
+ghost use Rattle.std.specs.Prelude.{◌≡◌, ◌<◌, ◌≤◌, List, [], ◌∷◌, ◌++◌, map, None, slice_index_or};
+ghost use Rattle.grammar.specs.Lists.{those};
+ghost use Rattle.grammar.specs.Binarised.{OwnRule, rules_in};
 ghost use Rattle.grammar.specs.Productions.{Sound};
-ghost use Rattle.grammar.specs.Strict.{strict_rules};
+ghost use Rattle.grammar.specs.Strict.{StrictFormRule, proper as stands, strict_rule, strict_rules_of, strict_rules};
 ghost use Rattle.conversion.specs.Binarised.{rows_book, grammar_of};
 ghost use Rattle.conversion.specs.Forms.{FormOf};
-ghost use Rattle.conversion.specs.Views.{strict_rule_of};
+ghost use Rattle.conversion.specs.Views.{right_side_of, rule_of, strict_rule_of};
 ghost use Rattle.conversion.specs.Linked.{ChosenChains};
-ghost use Rattle.conversion.specs.Found.{proper_right, Holds, Appends, by_end, by_ends};
+ghost use Rattle.conversion.specs.Found.{Holds};
 
 use crate::binarise::binarise;
 use crate::binarised::BinarisedRules;
@@ -21,7 +23,7 @@ use arrayvec::ArrayVec;
 
 // Whether a right side stands in a strict rule: a pair or a pattern.
 fn proper(right: Right) -> bool
-    ensures { result ≡ proper_right right }
+    ensures { result ≡ stands (right_side_of right) }
 {
     matches!(right, Right::Binary(_, _) | Right::Terminal(_))
 }
@@ -29,7 +31,7 @@ fn proper(right: Right) -> bool
 impl StrictRules {
     // One rule more at the end, or the note that there was no room for it.
     fn push(&mut self, rule: StrictRule)
-        ensures { Appends self.old self.new (strict_rule_of rule ∷ []) }
+        ensures { (l : List StrictFormRule) → Holds l self.old → Holds (l ++ (strict_rule_of rule ∷ [])) self.new }
     {
         if self.rules.try_push(rule).is_err() {
             self.complete = false;
@@ -38,7 +40,7 @@ impl StrictRules {
 
     // The strict rules of a symbol by the rules of the symbol that its chain leads to.
     fn through(&mut self, symbol: u8, end: u8, rules: &[BinarisedRule])
-        ensures { Appends self.old self.new (by_end rules.now symbol end) }
+        ensures { (l : List StrictFormRule) → Holds l self.old → Holds (l ++ map (strict_rule symbol end) (those (λ (o : OwnRule). stands o.1) (rules_in end (map rule_of rules.now)))) self.new }
     {
         for rule in rules {
             if rule.left == end && proper(rule.right) {
@@ -53,12 +55,14 @@ impl StrictRules {
     }
 
     // The strict rules of a symbol.
-    fn of(&mut self, symbol: u8, rules: &[BinarisedRule], chains: &Chains)
-        ensures { Appends self.old self.new (by_ends rules.now chains.now symbol 128) }
+    fn of(&mut self, symbol: u8, binarised: &BinarisedRules, chains: &Chains)
+        requires chosen { ChosenChains (grammar_of binarised.now) chains.now }
+        requires symbol { symbol < 128 }
+        ensures { (l : List StrictFormRule) → Holds l self.old → Holds (l ++ strict_rules_of (grammar_of binarised.now) symbol) self.new }
     {
         for end in 0..128 {
             if chains.reaches(symbol, end) {
-                self.through(symbol, end, rules);
+                self.through(symbol, end, &binarised.rules);
             }
         }
     }
@@ -73,7 +77,7 @@ impl StrictRules {
             complete: true,
         };
         for symbol in 0..128 {
-            out.of(symbol, &binarised.rules, chains);
+            out.of(symbol, binarised, chains);
         }
         out
     }

@@ -2,7 +2,8 @@
 ghost use Rattle.std.specs.Prelude.{◌≡◌, suc, false, is_some, Some, None, slice_index_or, slice_set};
 ghost use Rattle.grammar.specs.Nullable.{ready as made_of};
 ghost use Rattle.conversion.specs.Binarised.{grammar_of};
-ghost use Rattle.conversion.specs.Held.{sooner, AfterRounds, Nullables};
+ghost use Rattle.conversion.specs.Held.{NullablesAfter, Nullables};
+ghost use Rattle.conversion.specs.Rounds.{sooner};
 ghost use Rattle.conversion.specs.Views.{right_side_of};
 
 use crate::binarised::BinarisedRules;
@@ -55,8 +56,8 @@ impl Nullable {
 
     // One round: each symbol not yet held comes in by its first rule that is ready. Whether any came in.
     fn round(&mut self, binarised: &BinarisedRules, round: u8) -> bool
-        requires { AfterRounds (grammar_of binarised.now) round self.old }
-        ensures more { AfterRounds (grammar_of binarised.now) (suc round) self.new }
+        requires { NullablesAfter (grammar_of binarised.now) round self.old }
+        ensures more { NullablesAfter (grammar_of binarised.now) (suc round) self.new }
         ensures rest { result ≡ false → self.new.brought ≡ self.old.brought }
     {
         let mut grew = false;

@@ -1,10 +1,10 @@
 // Unit steps: from a symbol to another by a rule of one symbol, or by a pair whose other symbol is nullable.
-ghost use Rattle.std.specs.Prelude.{◌≡◌, ◌+◌, ◌<◌, ◌≤◌, ◌++◌, is_some, None, slice_index_or};
+ghost use Rattle.std.specs.Prelude.{◌≡◌, ◌+◌, ◌<◌, ◌≤◌, ◌++◌, map, is_some, None, slice_index_or};
 ghost use Rattle.arrayvec.specs.ArrayVec.{array_vec_len};
 ghost use Rattle.grammar.specs.Chains.{unit_step, steps_by};
 ghost use Rattle.conversion.specs.Binarised.{grammar_of};
 ghost use Rattle.conversion.specs.Held.{Nullables};
-ghost use Rattle.conversion.specs.Linked.{all_steps, steps_of};
+ghost use Rattle.conversion.specs.Rounds.{all_steps};
 ghost use Rattle.conversion.specs.Views.{right_side_of, drop_of, step_of};
 
 use crate::binarised::BinarisedRules;
@@ -29,7 +29,7 @@ impl BinarisedRule {
     // The steps of one rule: of a pair the left symbol kept comes before the right kept.
     fn steps(&self, nullable: &Nullable, out: &mut ArrayVec<UnitStep, 320>)
         requires { array_vec_len out.old < 319 }
-        ensures more { steps_of out.new ≡ steps_of out.old ++ steps_by (λ x. is_some (slice_index_or nullable.now.brought x None)) self.now.left self.now.number (right_side_of self.now.right) }
+        ensures more { map step_of out.new.items ≡ map step_of out.old.items ++ steps_by (λ x. is_some (slice_index_or nullable.now.brought x None)) self.now.left self.now.number (right_side_of self.now.right) }
         ensures few { array_vec_len out.new ≤ array_vec_len out.old + 2 }
     {
         match self.right {
@@ -50,7 +50,7 @@ impl BinarisedRule {
 // The unit steps of binarised rules: at most 160 rules, each with at most two steps.
 pub(crate) fn unit_steps(binarised: &BinarisedRules, nullable: &Nullable) -> ArrayVec<UnitStep, 320>
     requires { Nullables (grammar_of binarised.now) nullable.now }
-    ensures { steps_of result ≡ all_steps (grammar_of binarised.now) }
+    ensures { map step_of result.items ≡ all_steps (grammar_of binarised.now) }
 {
     let mut out = ArrayVec::new();
     for rule in binarised.rules.iter() {

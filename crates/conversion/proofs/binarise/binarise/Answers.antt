@@ -8,7 +8,11 @@ loop-n-init c = upto_none (rows_book c.args.productions.now c.args.patterns) c.n
 
 pub production-requires-clause-room : goal.production-requires-clause-room
 production-requires-clause-room c =
-    upto_room c.args.productions.now c.args.patterns c.loop-n.n c.loop-n.out c.index-productions-n.result c.requires c.loop-n-test.true c.index-productions-n.is c.loop-n.invariant
+    (upto_room c.args.productions.now c.args.patterns c.loop-n.n c.loop-n.out c.index-productions-n.result c.requires c.loop-n-test.true c.index-productions-n.is c.loop-n.invariant).0
+
+pub production-requires-clause-tails : goal.production-requires-clause-tails
+production-requires-clause-tails c =
+    (upto_room c.args.productions.now c.args.patterns c.loop-n.n c.loop-n.out c.index-productions-n.result c.requires c.loop-n-test.true c.index-productions-n.is c.loop-n.invariant).1
 
 pub production-requires-clause-head : goal.production-requires-clause-head
 production-requires-clause-head c =
@@ -16,14 +20,14 @@ production-requires-clause-head c =
 
 pub loop-n-preserved : goal.loop-n-preserved
 loop-n-preserved c =
-    upto_more c.args.productions.now c.args.patterns c.loop-n.n c.loop-n.out c.production.new.self c.index-productions-n.result c.loop-n-test.true c.index-productions-n.is c.loop-n.invariant c.production.ensures
+    upto_more c.args.productions.now c.args.patterns c.loop-n.n c.loop-n.out c.production.new.self c.index-productions-n.result c.loop-n-test.true c.index-productions-n.is c.loop-n.invariant (c.production.ensures.rules, c.production.ensures.symbols)
 
 pub push-requires-clause-room : goal.push-requires-clause-room
 push-requires-clause-room c =
     beyond_count c.args.productions.now c.args.patterns c.loop-t.t c.loop-t.out c.requires (omega arith) c.loop-t.invariant
 
 pub loop-t-preserved : goal.loop-t-preserved
-loop-t-preserved c = beyond_more (rows_book c.args.productions.now c.args.patterns) c.loop-t.t c.loop-t.out c.push.new.self c.loop-t.invariant c.push.ensures
+loop-t-preserved c = beyond_more (rows_book c.args.productions.now c.args.patterns) c.loop-t.t c.loop-t.out c.push.new.self c.loop-t.invariant (c.push.ensures.rules, omega arith)
 
 pub returns : goal.returns
 returns c =

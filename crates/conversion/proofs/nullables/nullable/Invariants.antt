@@ -1,6 +1,6 @@
 use Rattle.conversion.specs.Binarised.{grammar_of}
-use Rattle.conversion.specs.Held.{AfterRounds}
+use Rattle.conversion.specs.Held.{NullablesAfter}
 use Rattle.conversion.proofs.nullables.nullable.Given as goal
 
 abbrev pub invariant-loop-round : goal.invariant-loop-round
-invariant-loop-round l = AfterRounds (grammar_of l.binarised) l.round l.out
+invariant-loop-round l = NullablesAfter (grammar_of l.binarised) l.round l.out

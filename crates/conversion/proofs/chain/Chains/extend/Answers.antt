@@ -1,5 +1,6 @@
-use Rattle.std.proofs.Common.{◌≡◌, true, false, not, ◌&&◌, sym, ap, ◌∙◌, ap₂, true≢false}
-use Rattle.conversion.specs.Linked.{link, leads, shorter}
+use Rattle.std.proofs.Common.{◌≡◌, true, false, not, ◌&&◌, is_some, sym, ap, ◌∙◌, ap₂, true≢false}
+use Rattle.conversion.specs.Linked.{link}
+use Rattle.conversion.specs.Rounds.{shorter}
 use Rattle.conversion.proofs.Linking.{extend_turn}
 use Rattle.conversion.proofs.chain.Chains.extend.Goals as goal
 use Rattle.conversion.proofs.chain.Chains.extend.Goals.{then-reaches-within, else-reaches-within}
@@ -11,7 +12,7 @@ loop-y-preserved c =
     let m = c.loop-y.self in
     let y = c.loop-y.y in
     let n = c.if-reaches-within.self in
-    let is : (not c.reaches.result && c.within.result) ≡ (not (leads (link m s.from y)) && shorter k (link m s.to y))
+    let is : (not c.reaches.result && c.within.result) ≡ (not (is_some (link m s.from y)) && shorter k (link m s.to y))
     = ap₂ (λ a b. not a && b) c.reaches.ensures c.within.ensures in
     elim c.if-reaches-within.branch [
       | then-reaches-within w ↦ (

@@ -1,5 +1,6 @@
 use Rattle.std.proofs.Common.{◌≡◌, ℕ, ◌<◌, false, cond, ltb}
-use Rattle.conversion.specs.Linked.{link, extended}
+use Rattle.conversion.specs.Linked.{link}
+use Rattle.conversion.proofs.Linking.{extended}
 use Rattle.conversion.proofs.chain.Chains.extend.Given as goal
 
 abbrev pub invariant-loop-y : goal.invariant-loop-y

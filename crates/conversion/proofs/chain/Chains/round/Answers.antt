@@ -1,11 +1,15 @@
-use Rattle.std.proofs.Common.{map, get_or, None, sym, ap, ◌∙◌, subst}
+use Rattle.std.proofs.Common.{map, get_or, None, refl, sym, ap, ◌∙◌, subst}
 use Rattle.std.proofs.lemmas.Bool.{or_parts}
 use Rattle.std.proofs.lemmas.List.{take_all}
 use Rattle.conversion.specs.Views.{step_of}
-use Rattle.conversion.specs.Linked.{AfterSteps, extended}
+use Rattle.conversion.specs.Linked.{ChainsWithin}
+use Rattle.conversion.proofs.Linking.{extended}
 use Rattle.conversion.specs.declared.chain.UnitStep.{UnitStep}
-use Rattle.conversion.proofs.Reaching.{TableBetween, chains_end, round_turn}
+use Rattle.conversion.proofs.Reaching.{TableBetween, chains_start, chains_end, round_turn}
 use Rattle.conversion.proofs.chain.Chains.round.Goals as goal
+
+pub loop-step-init : goal.loop-step-init
+loop-step-init c = (λ B j e l ends is h. chains_start B j c.args.self.now h, λ e. refl)
 
 pub loop-step-preserved : goal.loop-step-preserved
 loop-step-preserved c =
@@ -20,7 +24,7 @@ pub returns : goal.returns
 returns c =
     let list = c.args.list.now in
     record {
-      more = λ B j e l ends is h. subst (λ k. AfterSteps B k c.loop-step.self) (sym e) (chains_end B j c.loop-step.self
+      more = λ B j e l ends is h. subst (λ k. ChainsWithin B k c.loop-step.self) (sym e) (chains_end B j c.loop-step.self
           (subst (λ ss. TableBetween B j ss c.loop-step.self) (ap (map step_of) (take_all c.loop-step.step-index list c.loop-step-test.false) ∙ is)
           (c.loop-step.invariant.0 B j e l ends is h)));
       rest = c.loop-step.invariant.1;

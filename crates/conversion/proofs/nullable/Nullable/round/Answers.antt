@@ -1,15 +1,20 @@
-use Rattle.std.proofs.Common.{◌≡◌, ◌+◌, ◌<◌, ◌≤◌, Bool, not, ◌&&◌, List, map, length, get_or, take, set, is_some, Some, None, Option, sym, ap, ◌∙◌, subst, ap₂, true≢false, arith}
+use Rattle.std.proofs.Common.{◌≡◌, ◌+◌, ◌<◌, ◌≤◌, Bool, not, ◌&&◌, List, map, length, get_or, take, set, is_some, Some, None, Option, refl, sym, ap, ◌∙◌, subst, ap₂, true≢false, arith}
 use Rattle.std.proofs.lemmas.List.{take_all}
 use Rattle.grammar.specs.Nullable.{ready}
 use Rattle.conversion.specs.Views.{right_side_of, rule_of}
 use Rattle.conversion.specs.Binarised.{grammar_of}
-use Rattle.conversion.specs.Held.{sooner}
+use Rattle.conversion.specs.Rounds.{sooner}
 use Rattle.conversion.specs.declared.nullable.Brought.{Brought}
 use Rattle.conversion.specs.declared.right.Right.TheVariants.{Empty}
 use Rattle.conversion.specs.declared.right.BinarisedRule.{BinarisedRule}
-use Rattle.conversion.proofs.Bringing.{TableAmid, table_end, turn_same, turn_more}
+use Rattle.conversion.proofs.Bringing.{TableAmid, table_start, table_end, turn_same, turn_more}
 use Rattle.conversion.proofs.nullable.Nullable.round.Goals as goal
 use Rattle.conversion.proofs.nullable.Nullable.round.Goals.{then-holds-ready, else-holds-ready}
+
+pub loop-rule-init : goal.loop-rule-init
+loop-rule-init c =
+    let b = c.args.binarised.now in
+    (table_start (grammar_of b) b.bounded c.args.round c.args.self.now c.requires, λ e. refl)
 
 pub loop-rule-preserved : goal.loop-rule-preserved
 loop-rule-preserved c =

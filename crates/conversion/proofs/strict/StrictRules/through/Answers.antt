@@ -1,9 +1,9 @@
-use Rattle.std.proofs.Common.{[], ◌∷◌, get_or, sym, ◌∙◌, subst}
+use Rattle.std.proofs.Common.{List, [], ◌∷◌, get_or, sym, ◌∙◌, subst}
+use Rattle.std.proofs.lemmas.List.{take_all}
 use Rattle.conversion.specs.declared.right.BinarisedRule.{BinarisedRule}
 use Rattle.conversion.specs.declared.right.Right.TheVariants.{Empty}
 use Rattle.conversion.specs.declared.strict.StrictRules.{StrictRules}
-use Rattle.conversion.specs.Found.{Appends, by_end}
-use Rattle.conversion.proofs.Found.{appends_same, appends_nothing, by_end_one, by_end_other, by_end_improper, through_more}
+use Rattle.conversion.proofs.Found.{Appends, by_end, appends_same, appends_nothing, by_end_one, by_end_other, by_end_improper, through_more}
 use Rattle.conversion.proofs.strict.StrictRules.through.Goals as goal
 use Rattle.conversion.proofs.strict.StrictRules.through.Goals.{then-rule-end+then-proper, else-rule-end, else-rule-end-via-then-rule-end+else-proper, else-rule-end-via-else-rule-end}
 
@@ -28,3 +28,8 @@ loop-rule-preserved c =
         | else-rule-end-via-else-rule-end v ↦ appends_nothing was is _ w.self-is (by_end_other r x y v.if-rule-end.false)
       ]
     ])
+
+pub returns : goal.returns
+returns c =
+    let rules = c.args.rules.now in
+    subst (λ (rs : List BinarisedRule). Appends c.args.self.now c.loop-rule.self (by_end rs c.args.symbol c.args.end)) (take_all c.loop-rule.rule-index rules c.loop-rule-test.false) c.loop-rule.invariant

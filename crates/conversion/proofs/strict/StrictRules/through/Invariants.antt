@@ -1,5 +1,5 @@
 use Rattle.std.proofs.Common.{take}
-use Rattle.conversion.specs.Found.{Appends, by_end}
+use Rattle.conversion.proofs.Found.{Appends, by_end}
 use Rattle.conversion.proofs.strict.StrictRules.through.Given as goal
 
 abbrev pub invariant-loop-rule : goal.invariant-loop-rule
