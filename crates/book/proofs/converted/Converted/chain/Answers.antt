@@ -1,6 +1,6 @@
-use Rattle.std.proofs.Common.{sym, subst}
+use Rattle.std.proofs.Common.{◌≡◌, sym, subst}
 use Rattle.grammar.specs.Binarise.{binarised}
-use Rattle.conversion.specs.Linked.{Chosen}
+use Rattle.conversion.specs.Linked.{link, Chosen}
 use Rattle.book.specs.Rules.{rules_book}
 use Rattle.book.proofs.Formed.{form_of}
 use Rattle.book.proofs.converted.Converted.chain.Goals as goal
@@ -11,4 +11,5 @@ returns c low high =
     let W = rules_book k.rules in
     let x = c.args.from in
     let y = c.args.to in
-    subst (Chosen (binarised W) x y) (sym c.chain.ensures) ((form_of W k.form k.formed).chains x y low high)
+    let is : c.chain.result ≡ link k.form.chains x y = cc c.chain.ensures in
+    subst (Chosen (binarised W) x y) (sym is) ((form_of W k.form k.formed).chains x y low high)
