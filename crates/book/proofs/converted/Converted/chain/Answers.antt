@@ -1,4 +1,4 @@
-use Rattle.std.proofs.Common.{◌≡◌, sym, subst}
+use Rattle.std.proofs.Common.{◌≡◌, sym, subst, rules}
 use Rattle.grammar.specs.Binarise.{binarised}
 use Rattle.conversion.specs.Linked.{link, Chosen}
 use Rattle.book.specs.Rules.{rules_book}
@@ -11,5 +11,5 @@ returns c low high =
     let W = rules_book k.rules in
     let x = c.args.from in
     let y = c.args.to in
-    let is : c.chain.result ≡ link k.form.chains x y = cc c.chain.ensures in
+    let is : c.chain.result ≡ link k.form.chains x y = search rules in
     subst (Chosen (binarised W) x y) (sym is) ((form_of W k.form k.formed).chains x y low high)

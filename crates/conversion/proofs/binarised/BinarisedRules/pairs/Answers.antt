@@ -12,8 +12,9 @@ loop-item-preserved c =
     let tailed = c.tail-tail.ensures in
     let pushed = c.push.ensures in
     let h : k < length ys - 2 = omega (arith, length-take-le (length ys - 2) ys (omega arith)) in
+    let at = get_or-take (length ys - 2) ys k 0 h in
     let added = tail_push was c.tail-tail.new.self is _ tailed.rules tailed.symbols pushed.rules pushed.symbols in (
-      pairs_more was is c.loop-item.left c.args.number c.tail-tail.result k _ _ ys (omega arith) tailed.is added (get_or-take (length ys - 2) ys k 0 h) (omega arith)
+      pairs_more was is c.loop-item.left c.args.number c.tail-tail.result k _ _ ys (omega arith) tailed.is added (omega arith) (omega arith)
           ∙ c.loop-item.invariant.0,
       omega (arith, c.loop-item.invariant.1, added.1),
       omega (arith, c.loop-item.invariant.2, added_count was is _ 1 added),

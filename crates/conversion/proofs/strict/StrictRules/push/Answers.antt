@@ -1,4 +1,4 @@
-use Rattle.std.proofs.Common.{◌≡◌, true, false, not, map, Ok, Err, Result, sym, ap, ◌∙◌, true≢false}
+use Rattle.std.proofs.Common.{◌≡◌, true, false, not, map, Ok, Err, Result, sym, ap, ◌∙◌, true≢false, rules}
 use Rattle.std.specs.Result.{OnOk, OnErr, is_err}
 use Rattle.conversion.specs.Views.{strict_rule_of}
 use Rattle.conversion.proofs.Found.{found_room, found_full}
@@ -17,7 +17,8 @@ returns-then-is_err c l h =
     let s = c.args.self.now in
     let e = sym c.is_err.ensures.value ∙ c.if-is_err.true in
     let f = found_full strict_rule_of s.rules.items c.args.rule s.complete l (at_err _ e c.try_push.ensures.full) h in
-    (ap (λ v. map strict_rule_of v.items) (at_err _ e c.try_push.ensures.err) ∙ f.0, f.1)
+    let over = f.1 in
+    (ap (λ v. map strict_rule_of v.items) (at_err _ e c.try_push.ensures.err) ∙ f.0, search rules)
 
 pub returns-else-is_err : goal.returns-else-is_err
 returns-else-is_err c l h =
