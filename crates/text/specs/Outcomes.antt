@@ -3,10 +3,11 @@ use Rattle.std.specs.Prelude.{◌≡◌, ℕ, ◌+◌, ◌-◌, ◌<◌, ◌≤�
 use Rattle.grammar.specs.Lists.{Mem, each}
 use Rattle.grammar.specs.Productions.{Production}
 use Rattle.text.specs.Faults.{line_fault_number, line_fault_place}
-use Rattle.text.specs.Kinds.{Kind, arrow, blank, head, pattern, cost, unknown, arrow_text, blank_text, kind}
-use Rattle.text.specs.Words.{Piece}
+use Rattle.text.specs.Kinds.{Kind, arrow, blank, head, pattern, cost, unknown, arrow_text, blank_text, kind, word_of, place_of}
+use Rattle.text.specs.Words.{Piece, piece}
 use Rattle.text.specs.declared.fault.LineFault.{LineFault}
 use Rattle.text.specs.declared.rule_line.RuleLine.{RuleLine}
+use Rattle.text.specs.declared.token.Token.{Token}
 
 -- what a line gives: nothing, a rule, or a refusal with its number and its byte place
 pub data Outcome : Type 0 where
@@ -193,16 +194,20 @@ line_text p = spaced (map word_text (front_kinds p ++ (cost p.cost ∷ [])))
 abbrev pub production_said : RuleLine → Production
 production_said l = written l.head (take l.len l.items) l.cost
 
--- what a reader of the rest of a line gives
+-- a refusal as an outcome
+abbrev pub fault_said : LineFault → Outcome
+fault_said f = fault (line_fault_number f) (line_fault_place f)
+
+-- what the reader of the rest of a line gives
 abbrev pub said : Result RuleLine LineFault → Outcome
 said (Ok l) = rule (production_said l)
-said (Err f) = fault (line_fault_number f) (line_fault_place f)
+said (Err f) = fault_said f
 
 -- what the reader of a line gives
 abbrev pub line_said : Result (Option RuleLine) LineFault → Outcome
 line_said (Ok None) = nothing
 line_said (Ok (Some l)) = rule (production_said l)
-line_said (Err f) = fault (line_fault_number f) (line_fault_place f)
+line_said (Err f) = fault_said f
 
 -- a production with its first nine items, which stand for nine and more: a book refuses both alike
 abbrev pub first_nine : Production → Production
@@ -213,3 +218,7 @@ abbrev pub in_nine : Outcome → Outcome
 in_nine nothing = nothing
 in_nine (rule p) = rule (first_nine p)
 in_nine (fault n at) = fault n at
+
+-- a token's word as a piece of the text
+abbrev pub token_piece : Token → Piece
+token_piece t = piece (place_of t) (word_of t)

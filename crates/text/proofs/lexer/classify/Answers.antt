@@ -1,8 +1,7 @@
 use Rattle.std.proofs.Common.{◌≡◌, ℕ, ◌-◌, ◌<◌, true, ◌⊎◌, List, length, get_or, take, drop, sym, refl, ap, ◌∙◌, inl, inr, arith, rules}
-use Rattle.text.specs.Kinds.{Known}
 use Rattle.text.specs.Numbers.{is_numeral}
 use Rattle.text.specs.declared.token.Token.TheVariants.{Arrow, Blank, Head, Pattern, Cost, Unknown}
-use Rattle.text.proofs.Spelled.{of_two, of_five, lettered, rest_of, sound_kind}
+use Rattle.text.proofs.Spelled.{Known, of_two, of_five, lettered, rest_of, sound_kind}
 use Rattle.text.proofs.lexer.classify.Goals as goal
 
 -- a known word by its length and bytes: an arrow, blank, or a letter before a number
@@ -21,9 +20,6 @@ looks w (inr (inr (inr (inr (d, t, e))))) = inr (inr (omega (arith, ap length e)
 pub returns-in-45-clause-is : goal.returns-in-45-clause-is
 returns-in-45-clause-is c = sym (sound_kind (Arrow c.args.word c.args.at) (of_two c.args.word.now 45 62 (search rules) (search rules) (search rules)))
 
-pub returns-in-blank-clause-sound : goal.returns-in-blank-clause-sound
-returns-in-blank-clause-sound c = of_five c.args.word.now 98 108 97 110 107 (search rules) (search rules) (search rules) (search rules) (search rules) (search rules)
-
 pub returns-in-blank-clause-is : goal.returns-in-blank-clause-is
 returns-in-blank-clause-is c = sym (sound_kind (Blank c.args.word c.args.at) (of_five c.args.word.now 98 108 97 110 107 (search rules) (search rules) (search rules) (search rules) (search rules) (search rules)))
 
@@ -39,4 +35,4 @@ returns-in-35-clause-is c = let w = c.args.word.now in let h : get_or w 0 0 ≡ 
 pub returns-in_default : goal.returns-in_default
 returns-in_default c =
     let no : Known c.args.word.now → ⊥ = λ k. (let l : Looks c.args.word.now = looks c.args.word.now k in grind arith) in
-    record { word = refl; place = refl; sound = no; is = sym (sound_kind (Unknown c.args.word c.args.at) no) }
+    record { word = refl; place = refl; is = sym (sound_kind (Unknown c.args.word c.args.at) no) }
