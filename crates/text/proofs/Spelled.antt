@@ -142,12 +142,10 @@ numeral_digits (b ∷ (c ∷ cs)) n = (and_parts (not (eqb b 48)) (all_digits (b
 
 -- a word with a number
 abbrev pub numbered : Kind → Bool
-numbered arrow = false
-numbered blank = false
 numbered (head n) = true
 numbered (pattern n) = true
 numbered (cost n) = true
-numbered unknown = false
+numbered _ = false
 
 spelled_digits : (w : List ℕ) (k : Kind) → Spelled w k → numbered k ≡ true → (0 < length w) × (all_digits (drop 1 w) ≡ true)
 spelled_digits w arrow s t = absurd (both_ways _ refl t)

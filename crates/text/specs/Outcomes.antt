@@ -21,55 +21,37 @@ written h right c = record { head = h; right = right; cost = c }
 
 -- the number of the refusal of a word that may not stand where it does: unknown, over its limit, or else out of place
 abbrev pub refusal_of : Kind → ℕ
-refusal_of arrow = 22
-refusal_of blank = 22
 refusal_of (head n) = cond (nat_lt 31 n) 21 22
 refusal_of (pattern n) = cond (nat_lt 31 n) 21 22
 refusal_of (cost n) = cond (nat_lt 65535 n) 21 22
 refusal_of unknown = 20
+refusal_of _ = 22
 
 -- a head within its limit
 abbrev pub head_of : Kind → Option ℕ
-head_of arrow = None
-head_of blank = None
 head_of (head n) = cond (nat_le n 31) (Some n) None
-head_of (pattern n) = None
-head_of (cost n) = None
-head_of unknown = None
+head_of _ = None
 
 -- an item within its limit: head h is h, pattern t is 32 + t
 abbrev pub item_of : Kind → Option ℕ
-item_of arrow = None
-item_of blank = None
 item_of (head n) = cond (nat_le n 31) (Some n) None
 item_of (pattern n) = cond (nat_le n 31) (Some (32 + n)) None
-item_of (cost n) = None
-item_of unknown = None
+item_of _ = None
 
 -- a cost within its limit
 abbrev pub cost_of : Kind → Option ℕ
-cost_of arrow = None
-cost_of blank = None
-cost_of (head n) = None
-cost_of (pattern n) = None
 cost_of (cost n) = cond (nat_le n 65535) (Some n) None
-cost_of unknown = None
+cost_of _ = None
 
+-- an arrow
 abbrev pub is_arrow : Kind → Bool
 is_arrow arrow = true
-is_arrow blank = false
-is_arrow (head n) = false
-is_arrow (pattern n) = false
-is_arrow (cost n) = false
-is_arrow unknown = false
+is_arrow _ = false
 
+-- blank
 abbrev pub is_blank : Kind → Bool
-is_blank arrow = false
 is_blank blank = true
-is_blank (head n) = false
-is_blank (pattern n) = false
-is_blank (cost n) = false
-is_blank unknown = false
+is_blank _ = false
 
 -- one thing of what is there, another of nothing
 abbrev pub by : {A : Type 0} → Option ℕ → A → (ℕ → A) → A

@@ -19,7 +19,9 @@ returns c =
     let s = c.word_start-place.ensures in
     let t = c.word_end-past.ensures in
     let grown : p < q = ends_later xs p q t.within.0 (omega arith) (λ l. s.found (omega arith)) t.found in
+    let gap = words_from xs c.args.from p s.within.0 (omega arith) s.before in
+    let word = word_at xs p q grown t.within.1 t.before t.found in
     record {
-      is = words_from xs c.args.from p s.within.0 (omega arith) s.before ∙ word_at xs p q grown t.within.1 t.before t.found;
+      is = cc;
       past = (omega (arith, length_stretch xs p q t.within.0 t.within.1), omega (arith, length_stretch xs p q t.within.0 t.within.1));
     }
