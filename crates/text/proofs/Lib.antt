@@ -6,3 +6,4 @@ pub mod Meaning
 pub mod Later
 pub mod Sounding
 pub mod LineText
+pub mod Within

@@ -4,6 +4,7 @@ use Rattle.grammar.specs.Lists.{Mem, each}
 use Rattle.grammar.specs.Productions.{Production}
 use Rattle.text.specs.Faults.{line_fault_number, line_fault_place}
 use Rattle.text.specs.Kinds.{Kind, arrow, blank, head, pattern, cost, unknown, arrow_text, blank_text, kind, word_of, place_of}
+use Rattle.text.specs.Numbers.{is_numeral, decimal as decimal_of}
 use Rattle.text.specs.Words.{Piece, piece}
 use Rattle.text.specs.declared.fault.LineFault.{LineFault}
 use Rattle.text.specs.declared.rule_line.RuleLine.{RuleLine}
@@ -149,6 +150,13 @@ abbrev pub Means : ℕ → List Piece → Outcome → Type 0
 Means end ws nothing = ws ≡ []
 Means end ws (rule p) = Says (kinds ws) p
 Means end ws (fault n at) = WordRefused ws n at ⊎ LineTooShort end ws n at
+
+-- a word with a number of any length: over its limit it meets 21; with a leading zero before more it is unknown and meets 20
+pub record OfDigits (d : List ℕ) : Type 0 where
+  pub head_over : is_numeral d ≡ true → 31 < decimal_of d → refusal_of (kind (72 ∷ d)) ≡ 21
+  pub pattern_over : is_numeral d ≡ true → 31 < decimal_of d → refusal_of (kind (80 ∷ d)) ≡ 21
+  pub cost_over : is_numeral d ≡ true → 65535 < decimal_of d → refusal_of (kind (35 ∷ d)) ≡ 21
+  pub zero_first : (a : ℕ) → 0 < length d → refusal_of (kind (a ∷ (48 ∷ d))) ≡ 20
 
 -- A production as text
 
