@@ -1,6 +1,6 @@
 -- What a load does, line by line.
-use Rattle.std.proofs.Common.{◌≡◌, ℕ, suc, ◌+◌, ◌-◌, ◌<◌, ◌≤◌, Bool, true, false, cond, eqb, ltb, leb, List, [], ◌∷◌, ◌++◌, map, length, take, drop, sym, refl, ap, ◌∙◌, subst, ⊎_elim, arith}
-use Rattle.std.proofs.lemmas.List.{take_all, length-take, length-take-le, length-drop, drop-take, drop_all}
+use Rattle.std.proofs.Common.{◌≡◌, ℕ, suc, ◌+◌, ◌-◌, ◌<◌, ◌≤◌, Bool, true, false, cond, eqb, ltb, leb, List, [], ◌∷◌, ◌++◌, map, length, take, drop, sym, refl, ap, ◌∙◌, subst, inl, inr, ⊎_elim, append_assoc, append-nil, arith}
+use Rattle.std.proofs.lemmas.List.{length_push, take_all, length-take, length-take-le, length-drop, drop-take, drop_all}
 use Rattle.std.proofs.lemmas.Bool.{both_ways, cases_Bool, cond-true, cond-false, eq-eqb, ne_eqb, leb-false, lt-ltb, le-ltb}
 use Rattle.std.proofs.lemmas.Bool.Decides.{nat_tests}
 use Rattle.text.specs.Words.{Piece, piece, pieces, ends_line, lines, words, line_words, IsLineEnd}
@@ -13,6 +13,7 @@ use Rattle.text.proofs.Cutting.{cut_into}
 use Rattle.text.proofs.Spelled.{of_kind}
 use Rattle.text.proofs.Meaning.{line_means}
 use Rattle.text.proofs.Sounding.{says_rule}
+use Rattle.text.proofs.Within.{pieces_inside, words_inside, line_within, of_digits}
 use Rattle.text.proofs.LineText.{text_says, text_one_line}
 use Rattle.text.proofs.Later.{shift, shift_outcome, pieces_later, words_later, line_later}
 use Rattle.grammar.specs.Lists.{Mem, some_of}
@@ -21,7 +22,7 @@ use Rattle.grammar.specs.Binarise.{binarised}
 use Rattle.grammar.specs.Strict.{strict_rules}
 use Rattle.grammar.proofs.Lists.{some_from}
 use Rattle.book.specs.Offers.{book, refusal, same_rule}
-use Rattle.book.specs.Loads.{Load, taken, stopped, and_then, offer_line, end_of, first_place, load_lines, load, later, LoadMeans}
+use Rattle.book.specs.Loads.{Load, taken, stopped, and_then, offer_line, end_of, first_place, load_lines, load, later, Stands, LoadMeans}
 
 -- Rules with the first nine items
 
@@ -229,12 +230,59 @@ round_trip T rules p h c z =
     ∙ cond-true (eqb (refusal T rules p) 0) (taken (rules ++ (p ∷ [])) 1) (stopped rules 24 (first_place (line_words l))) (eq-eqb (refusal T rules p) 0 z) in
     ap (load_lines T rules 0) (pieces_last ends_line 0 (line_text p) (text_one_line p w)) ∙ ap (λ (o : Load). and_then o (λ held m. load_lines T held m [])) one
 
+-- What stands after a load
+
+module _ (T size : ℕ) (rules : List Production) where
+  -- so many rules came after those held before
+  abbrev Came : List Production → ℕ → Type 0
+  Came is n = (more : List Production) × (is ≡ rules ++ more) × (n ≡ length more)
+
+  one_more : (is : List Production) (n : ℕ) (p : Production) → Came is n → Came (is ++ (p ∷ [])) (suc n)
+  one_more is n p (more, e, f) = (more ++ (p ∷ []), ap (λ l. l ++ (p ∷ [])) e ∙ append_assoc rules more (p ∷ []), ap suc f ∙ sym (length_push_suc more p))
+    where
+      length_push_suc : (xs : List Production) (x : Production) → length (xs ++ (x ∷ [])) ≡ suc (length xs)
+      length_push_suc xs x = let k : length xs + 1 ≡ suc (length xs) = omega arith in length_push xs x ∙ k
+
+  -- a line is refused
+  stops : (is : List Production) (n number at : ℕ) → Came is n → 20 ≤ number → number ≤ 24 → at ≤ size → Stands size rules (stopped is number at)
+  stops is n number at (more, e, f) l h w = (more, e, l, h, w)
+
+  first_inside : (ws : List Piece) → ((w : Piece) → Mem w ws → w.place ≤ size) → first_place ws ≤ size
+  first_inside [] h = omega arith
+  first_inside (w ∷ ws) h = h w (inl refl)
+
+  -- one line, and then the rest
+  line_stands : (end : ℕ) (ws : List Piece) (is : List Production) (n : ℕ) (rest : List Production → ℕ → Load) → Came is n → ((w : Piece) → Mem w ws → w.place ≤ end) → end ≤ size
+      → ((js : List Production) (m : ℕ) → Came js m → Stands size rules (rest js m)) → Stands size rules (and_then (offer_line T is n (first_place ws) (line end ws)) rest)
+  line_stands end ws is n rest came low near on = at (line end ws) refl
+    where
+      offered : (p : Production) (b : Bool) → Stands size rules (and_then (cond b (taken (is ++ (p ∷ [])) (suc n)) (stopped is 24 (first_place ws))) rest)
+      offered p true = on (is ++ (p ∷ [])) (suc n) (one_more is n p came)
+      offered p false = stops is n 24 (first_place ws) came (omega arith) (omega arith) (first_inside ws (λ w m. omega (arith, low w m, near)))
+
+      at : (o : Outcome) → line end ws ≡ o → Stands size rules (and_then (offer_line T is n (first_place ws) o) rest)
+      at nothing e = on is n came
+      at (rule p) e = offered p (eqb (refusal T is p) 0)
+      at (fault number place) e = let r = line_within end ws number place low e in stops is n number place came r.0 (omega (arith, r.1)) (omega (arith, r.2, near))
+
+  lines_stand : (is : List Production) (n : ℕ) (ls : List Piece) → Came is n → ((l : Piece) → Mem l ls → end_of l ≤ size) → Stands size rules (load_lines T is n ls)
+  unfolding load_lines
+  lines_stand is n [] came inside = came
+  lines_stand is n (l ∷ ls) came inside =
+      line_stands (end_of l) (line_words l) is n (λ held m. load_lines T held m ls) came (λ w m. omega (arith, words_inside l.place l.bytes w m)) (inside l (inl refl))
+      (λ js m more. lines_stand js m ls more (λ k m. inside k (inr m)))
+
+load_stands : (T : ℕ) (rules : List Production) (text : List ℕ) → Stands (length text) rules (load T rules text)
+load_stands T rules text = lines_stand T (length text) rules rules 0 (lines 0 text) ([], sym (append-nil rules), refl) (λ l m. omega (arith, pieces_inside ends_line 0 text l m))
+
 pub load_means : (T : ℕ) (rules : List Production) (text : List ℕ) → T ≤ 32 → LoadMeans T rules text
 load_means T rules text h = record {
   cut = cut_into 0 text;
   spelled = of_kind;
+  digits = of_digits;
   each_line = λ l m. line_means (end_of l) (line_words l);
   sound_line = λ l p m s. says_rule (end_of l) (line_words l) p s;
+  stands = load_stands T rules text;
   one_by_one = λ a b e. ap (load T rules) e ∙ one_by_one T rules a b;
   round_trip = λ p e c z. ap (load T rules) e ∙ round_trip T rules p h c z;
 }

@@ -3,7 +3,7 @@ use Rattle.std.specs.Prelude.{◌≡◌, ℕ, suc, ◌+◌, ◌≤◌, Bool, tru
 use Rattle.text.specs.declared.fault.LineFault.{LineFault}
 use Rattle.text.specs.Kinds.{OfKind}
 use Rattle.text.specs.Words.{Piece, lines, line_words, CutInto}
-use Rattle.text.specs.Outcomes.{Outcome, nothing, rule, fault, line, line_text, kinds, Says, Means}
+use Rattle.text.specs.Outcomes.{Outcome, nothing, rule, fault, line, line_text, kinds, Says, Means, OfDigits}
 use Rattle.grammar.specs.Lists.{Mem}
 use Rattle.grammar.specs.Productions.{Production}
 use Rattle.book.specs.Faults.{load_number, load_place}
@@ -14,18 +14,6 @@ use Rattle.book.specs.declared.fault.LoadFault.TheVariants.{Line}
 -- the fault of a line, as the load's
 abbrev pub line_fault : LineFault → LoadFault
 line_fault f = Line f
-
--- a line was loaded: whether it was offered, and then its rule came at the end
-abbrev pub LineLoaded : List ℕ → List Production → List Production → Result Bool LoadFault → Type 0
-LineLoaded text was is (Ok true) = (p : Production) × (is ≡ was ++ (p ∷ []))
-LineLoaded text was is (Ok false) = is ≡ was
-LineLoaded text was is (Err f) = (is ≡ was) × (20 ≤ load_number f) × (load_number f ≤ 24) × (load_place f ≤ length text)
-
--- a text was loaded into a book that held the rules `was`: those stand, rules may have come after them, and the answer is how
--- many lines were offered; or it is refused with one of the numbers 20 to 24 and a place within the text
-abbrev pub Loaded : List ℕ → List Production → List Production → Result ℕ LoadFault → Type 0
-Loaded text was is (Ok n) = (more : List Production) × (is ≡ was ++ more) × (n ≡ length more)
-Loaded text was is (Err f) = (more : List Production) × (is ≡ was ++ more) × (20 ≤ load_number f) × (load_number f ≤ 24) × (load_place f ≤ length text)
 
 -- what a load comes to: the rules then held, and how many lines were offered, or the number and the byte place of the refusal
 pub data Load : Type 0 where
@@ -71,16 +59,26 @@ abbrev pub later : ℕ → ℕ → Load → Load
 later n k (taken rules m) = taken rules (n + m)
 later n k (stopped rules number at) = stopped rules number (k + at)
 
+-- the rules held before stand, and after them come those of the lines offered: as many as the answer says; or the load is stopped by
+-- one of the numbers 20 to 24, at a place within the text
+abbrev pub Stands : ℕ → List Production → Load → Type 0
+Stands size was (taken is n) = (more : List Production) × (is ≡ was ++ more) × (n ≡ length more)
+Stands size was (stopped is number at) = (more : List Production) × (is ≡ was ++ more) × (20 ≤ number) × (number ≤ 24) × (at ≤ size)
+
 -- what a load means
 pub record LoadMeans (T : ℕ) (rules : List Production) (text : List ℕ) : Type 0 where
   -- lines and words are longest stretches between the bytes that part them, with their places
   pub cut : CutInto 0 text
   -- a word is what it is spelled as
   pub spelled : (w : List ℕ) → OfKind w
+  -- a number may have any number of digits
+  pub digits : (d : List ℕ) → OfDigits d
   -- what a line gives is what its words say, or the refusal of the first word with which no sound line can begin, or of its end
   pub each_line : (l : Piece) → Mem l (lines 0 text) → Means (end_of l) (line_words l) (line (end_of l) (line_words l))
   -- a sound line gives its production
   pub sound_line : (l : Piece) (p : Production) → Mem l (lines 0 text) → Says (kinds (line_words l)) p → line (end_of l) (line_words l) ≡ rule p
+  -- the rules held before stand, and a refusal lies within the text
+  pub stands : Stands (length text) rules (load T rules text)
   -- two texts with a line feed between them are loaded one after the other; so a load is its lines, one by one
   pub one_by_one : (a b : List ℕ) → text ≡ a ++ (10 ∷ b) → load T rules text ≡ and_then (load T rules a) (λ held m. later m (suc (length a)) (load T held b))
   -- the line of a production that the book admits adds just that production

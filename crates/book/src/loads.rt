@@ -1,8 +1,8 @@
 // Rule text is loaded into the plain rows of a book, line by line.
-ghost use Rattle.std.specs.Prelude.{◌≡◌, ℕ, ◌≤◌, [], length};
+ghost use Rattle.std.specs.Prelude.{◌≡◌, ℕ, []};
 ghost use Rattle.text.specs.Turns.{words_of, outcome_of};
 ghost use Rattle.book.specs.Rules.{held};
-ghost use Rattle.book.specs.Loads.{line_fault, LineLoaded, Loaded, first_place, offer_line, line_is, load, load_is};
+ghost use Rattle.book.specs.Loads.{line_fault, first_place, offer_line, line_is, load, load_is};
 
 use crate::fault::LoadFault;
 use crate::rules::Rules;
@@ -19,8 +19,7 @@ impl From<LineFault> for LoadFault {
 
 // The place of the first word of a line, or where the line begins if it has none.
 fn first_place(line: Line<'_>) -> usize
-    ensures inside { result ≤ length line.entry.text.now }
-    ensures is { (words_of line.entry ≡ [] → ⊥) → result ≡ first_place (words_of line.entry) }
+    ensures { (words_of line.entry ≡ [] → ⊥) → result ≡ first_place (words_of line.entry) }
 {
     line.words().next().map_or(line.from, |word| word.place)
 }
@@ -28,7 +27,6 @@ fn first_place(line: Line<'_>) -> usize
 impl Rules {
     // Offers the rule of one line: whether the line has one.
     fn load_line(&mut self, line: Line<'_>) -> Result<bool, LoadFault>
-        ensures says { LineLoaded line.entry.text.now (held self.old) (held self.new) result }
         ensures is { (n : ℕ) → line_is n (held self.new) result ≡ offer_line self.old.patterns (held self.old) n (first_place (words_of line.entry)) (outcome_of line.entry) }
         ensures over { self.new.patterns ≡ self.old.patterns }
     {
@@ -44,7 +42,6 @@ impl Rules {
 
     // Offers the rules of a text, up to the first line that is refused: how many lines were offered.
     pub(crate) fn load(&mut self, text: &[u8]) -> Result<usize, LoadFault>
-        ensures says { Loaded text.now (held self.old) (held self.new) result }
         ensures is { load_is (held self.new) result ≡ load self.old.patterns (held self.old) text.now }
         ensures over { self.new.patterns ≡ self.old.patterns }
     {

@@ -6,7 +6,7 @@ ghost use Rattle.grammar.specs.Binarise.{binarised};
 ghost use Rattle.grammar.specs.Strict.{strict_rules};
 ghost use Rattle.conversion.specs.Views.{strict_rule_of};
 ghost use Rattle.book.specs.Fits.{IsFitAnswer};
-ghost use Rattle.book.specs.Loads.{Loaded, load, load_is, LoadMeans};
+ghost use Rattle.book.specs.Loads.{load, load_is, LoadMeans};
 ghost use Rattle.book.specs.Offers.{Offered};
 ghost use Rattle.book.specs.Rules.{held};
 ghost use Rattle.book.specs.Runs.{an_offer, a_load, a_strike, held_after, RunsOn, Leaves};
@@ -44,7 +44,6 @@ impl<'p, A: Alphabet> OpenBook<'p, A> {
 
     // Offers the rules of a text in turn, up to the first line that is refused: how many lines were offered, or the refusal.
     pub fn load(&mut self, text: &[u8]) -> Result<usize, LoadFault>
-        ensures says { Loaded text.now (open_held self.old) (open_held self.new) result }
         ensures is { load_is (open_held self.new) result ≡ load (length self.old.table.patterns.now) (open_held self.old) text.now }
         ensures means { LoadMeans (length self.old.table.patterns.now) (open_held self.old) text.now }
         ensures table { self.new.table ≡ self.old.table }

@@ -14,9 +14,7 @@ use text::reader::rule_line;
 fn offers(heap: Global, book: &mut OpenBook<Bytes>, rules: &[&str]) -> anyhow::Result<String> {
     let mut out = String::new(heap);
     for rule in rules {
-        let line = rule_line(rule.as_bytes(), 0, rule.len())?.context(
-            "a rule that is offered is missing",
-        )?;
+        let line = rule_line(rule.as_bytes(), 0)?.context("a rule that is offered is missing")?;
         match book.offer(line.head(), line.right(), line.cost()) {
             Ok(_) => writeln!(out, "taken {rule}")?,
             Err(fault) => writeln!(out, "refused {} {rule}", fault.number())?,

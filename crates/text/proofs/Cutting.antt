@@ -14,7 +14,7 @@ grown p at b f (next_piece n w c rest ps h t r) e =
     let s : suc (n + length w) ≡ suc (at + suc (length w)) = omega arith in
     next_piece at (b ∷ w) c rest ps (λ d m. elim m [ inl q ↦ ap p q ∙ f | inr k ↦ h d k ]) t (subst (λ m. Cut p m rest ps) s r)
 
-cut_is : (p : ℕ → Bool) (at : ℕ) (bs : List ℕ) → Cut p at bs (pieces p at bs)
+pub cut_is : (p : ℕ → Bool) (at : ℕ) (bs : List ℕ) → Cut p at bs (pieces p at bs)
 unfolding pieces
 cut_is p at [] = last at [] (λ b m. absurd m)
 cut_is p at (b ∷ bs) = elim (cases_Bool (p b)) [

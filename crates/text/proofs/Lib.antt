@@ -1,7 +1,4 @@
-pub mod Items
 pub mod Spelled
-pub mod Once
-pub mod Steps
 pub mod Wording
 pub mod Nine
 pub mod Cutting
@@ -9,4 +6,4 @@ pub mod Meaning
 pub mod Later
 pub mod Sounding
 pub mod LineText
-pub mod Agreeing
+pub mod Within

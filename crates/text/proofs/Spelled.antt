@@ -1,14 +1,31 @@
 -- How words are spelled.
-use Rattle.std.proofs.Common.{◌≡◌, ℕ, ◌-◌, ◌<◌, true, false, cond, eqb, ◌⊎◌, List, [], ◌∷◌, length, get_or, take, drop, Decides, sym, refl, ap, ◌∙◌, subst, inl, inr, ⊎_elim, arith, rules}
+use Rattle.std.proofs.Common.{◌≡◌, ℕ, ◌-◌, ◌<◌, Bool, true, false, not, ◌&&◌, cond, eqb, ◌⊎◌, List, [], ◌∷◌, length, get_or, take, drop, Decides, sym, refl, ap, ◌∙◌, subst, inl, inr, ⊎_elim, arith, rules}
 use Rattle.std.proofs.lemmas.Slice.Eq.{compares_Decides}
 use Rattle.std.proofs.lemmas.List.{take_rest}
 use Rattle.std.proofs.lemmas.Slice.{first_rest}
-use Rattle.std.proofs.lemmas.Bool.{cases_Bool, cases_eq, ne_eqb, cond-true, cond-false}
+use Rattle.std.proofs.lemmas.Bool.{and_parts, both_ways, cases_Bool, cases_eq, ne_eqb, cond-true, cond-false}
 use Rattle.grammar.specs.Lists.{same_numbers}
-use Rattle.text.specs.Kinds.{Kind, arrow, blank, head, pattern, cost, unknown, arrow_text, blank_text, lettered as by_letter, spelled as by_spelling, kind, word_of, kind_of, Spelled, OfKind, Known, Lettered, Sound}
+use Rattle.text.specs.Kinds.{Kind, arrow, blank, head, pattern, cost, unknown, arrow_text, blank_text, lettered as by_letter, spelled as by_spelling, kind, word_of, kind_of, Spelled, OfKind, Sound}
 use Rattle.text.specs.declared.token.Token.{Token}
 use Rattle.text.specs.declared.token.Token.TheVariants.{Arrow, Blank, Head, Pattern, Cost, Unknown}
-use Rattle.text.specs.Numbers.{is_numeral, decimal}
+use Rattle.text.specs.Numbers.{all_digits, is_numeral, decimal}
+
+-- a letter before a number
+abbrev pub Lettered : ℕ → List ℕ → Type 0
+Lettered a w = (d : List ℕ) × (is_numeral d ≡ true) × (w ≡ a ∷ d)
+
+-- a word of some kind; H is 72, P is 80 and # is 35
+abbrev pub Known : List ℕ → Type 0
+Known w = (w ≡ arrow_text) ⊎ ((w ≡ blank_text) ⊎ (Lettered 72 w ⊎ (Lettered 80 w ⊎ Lettered 35 w)))
+
+-- the token's word is spelled as its kind says
+abbrev pub FitsWord : Token → Type 0
+FitsWord (Arrow w at) = w.now ≡ arrow_text
+FitsWord (Blank w at) = w.now ≡ blank_text
+FitsWord (Head w at) = Lettered 72 w.now
+FitsWord (Pattern w at) = Lettered 80 w.now
+FitsWord (Cost w at) = Lettered 35 w.now
+FitsWord (Unknown w at) = Known w.now → ⊥
 
 -- a list by its length and elements
 pub of_two : (w : List ℕ) (a b : ℕ) → length w ≡ 2 → get_or w 0 0 ≡ a → get_or w 1 0 ≡ b → w ≡ a ∷ (b ∷ [])
@@ -108,10 +125,41 @@ spelled_known w (cost n) (d, num, val, e) = inr (inr (inr (inr (d, num, e))))
 spelled_known w unknown e = absurd e
 
 -- a token of its word's kind says what the word is
-pub sound_kind : (t : Token) → Sound t → kind (word_of t) ≡ kind_of t
+pub sound_kind : (t : Token) → FitsWord t → Sound t
 sound_kind (Arrow w at) e = kind_arrow w.now e
 sound_kind (Blank w at) e = kind_blank w.now e
 sound_kind (Head w at) (d, num, e) = (of_kind w.now).is_kind (head (decimal d)) (d, num, refl, e) ∙ ap (λ v. head (decimal (drop 1 v))) (sym e)
 sound_kind (Pattern w at) (d, num, e) = (of_kind w.now).is_kind (pattern (decimal d)) (d, num, refl, e) ∙ ap (λ v. pattern (decimal (drop 1 v))) (sym e)
 sound_kind (Cost w at) (d, num, e) = (of_kind w.now).is_kind (cost (decimal d)) (d, num, refl, e) ∙ ap (λ v. cost (decimal (drop 1 v))) (sym e)
 sound_kind (Unknown w at) other = ⊎_elim (λ (u : kind w.now ≡ unknown). u) (λ (s : Spelled w.now (kind w.now)). absurd (other (spelled_known w.now (kind w.now) s))) (of_kind w.now).known
+
+-- Words with a number
+
+numeral_digits : (ds : List ℕ) → is_numeral ds ≡ true → all_digits ds ≡ true
+numeral_digits [] n = absurd (both_ways _ refl n)
+numeral_digits (b ∷ []) n = ap (λ t. t && true) n
+numeral_digits (b ∷ (c ∷ cs)) n = (and_parts (not (eqb b 48)) (all_digits (b ∷ (c ∷ cs))) n).1
+
+-- a word with a number
+abbrev pub numbered : Kind → Bool
+numbered (head n) = true
+numbered (pattern n) = true
+numbered (cost n) = true
+numbered _ = false
+
+spelled_digits : (w : List ℕ) (k : Kind) → Spelled w k → numbered k ≡ true → (0 < length w) × (all_digits (drop 1 w) ≡ true)
+spelled_digits w arrow s t = absurd (both_ways _ refl t)
+spelled_digits w blank s t = absurd (both_ways _ refl t)
+spelled_digits w (head n) (d, num, val, e) t = (omega (arith, ap length e), ap (λ v. all_digits (drop 1 v)) e ∙ numeral_digits d num)
+spelled_digits w (pattern n) (d, num, val, e) t = (omega (arith, ap length e), ap (λ v. all_digits (drop 1 v)) e ∙ numeral_digits d num)
+spelled_digits w (cost n) (d, num, val, e) t = (omega (arith, ap length e), ap (λ v. all_digits (drop 1 v)) e ∙ numeral_digits d num)
+spelled_digits w unknown s t = absurd s
+
+-- a sound token with a number: digits stand behind its letter
+pub token_digits : (t u : Token) → Sound t → t ≡ u → numbered (kind_of u) ≡ true → (0 < length (word_of u)) × (all_digits (drop 1 (word_of u)) ≡ true)
+token_digits t u s e n =
+    let k : kind (word_of u) ≡ kind_of u = subst Sound e s in
+    ⊎_elim
+    (λ (z : kind (word_of u) ≡ unknown). absurd (both_ways _ (ap numbered (sym k ∙ z)) n))
+    (λ (z : Spelled (word_of u) (kind (word_of u))). spelled_digits (word_of u) (kind_of u) (subst (Spelled (word_of u)) k z) n)
+    (of_kind (word_of u)).known

@@ -6,7 +6,7 @@ use Rattle.std.proofs.lemmas.List.Sums.{prefix_len-le-length, prefix_len_passes,
 use Rattle.std.proofs.lemmas.Bool.{both_ways, cases_Bool, cases_lt, cond-true, cond-false, eq-eqb, ne_eqb, lt-ltb, le-ltb}
 use Rattle.grammar.specs.Lists.{those}
 use Rattle.grammar.proofs.Lists.{those_append}
-use Rattle.text.specs.Words.{Piece, piece, longer, pieces, ends_line, parts, lines, some_byte, words, AllAre, Ends, IsWord, IsLineEnd}
+use Rattle.text.specs.Words.{Piece, piece, longer, pieces, ends_line, parts, lines, some_byte, words, AllAre, Ends, IsLineEnd}
 
 -- a run of bytes that part nothing, at the end of the text
 pub pieces_last : (p : ℕ → Bool) (at : ℕ) (w : List ℕ) → AllAre p false w → pieces p at w ≡ piece at w ∷ []
@@ -170,21 +170,6 @@ word_at xs p e h l plain ended =
     ap (words p) (stretch_rest xs p e (omega arith))
     ∙ words_some p w (drop e xs) (omega arith) (stretch_all parts false xs p e (omega arith) l plain) (ends_here xs e ended)
     ∙ ap (λ m. piece p w ∷ words (p + length w) (drop m xs)) (sym s)
-
--- a word and what is left behind it
-pub word_first : (xs : List ℕ) (from p : ℕ) (w : List ℕ) → IsWord xs from p w → words from (drop from xs) ≡ piece p w ∷ words (p + length w) (drop (p + length w) xs)
-word_first xs from p w is =
-    let e : p + length w - p ≡ length w = omega arith in
-    let s : stretch xs p (p + length w) ≡ w = ap (λ n. take n (drop p xs)) e ∙ sym is.part in
-    words_from xs from p is.later (omega (arith, is.inside)) is.skipped ∙ word_at xs p (p + length w) (omega (arith, is.some)) is.inside is.plain is.ended
-    ∙ ap (λ v. piece p v ∷ words (p + length v) (drop (p + length v) xs)) s
-
--- only bytes that part words are left
-pub word_none : (xs : List ℕ) (from : ℕ) → ((k : ℕ) → from ≤ k → k < length xs → parts (get_or xs k 0) ≡ true) → words from (drop from xs) ≡ []
-word_none xs from h = ⊎_elim
-    (λ (l : from < length xs). words_from xs from (length xs) (omega arith) (omega arith) h ∙ words_past xs (length xs) (omega arith))
-    (λ (g : length xs ≤ from). words_past xs from g)
-    (cases_lt from (length xs))
 
 -- the line from a place to its end
 pub line_at : (xs : List ℕ) (from e : ℕ) → from ≤ length xs → IsLineEnd xs from e

@@ -22,14 +22,6 @@ arrow_text = 45 ∷ (62 ∷ [])
 abbrev pub blank_text : List ℕ
 blank_text = 98 ∷ (108 ∷ (97 ∷ (110 ∷ (107 ∷ []))))
 
--- a letter before a number
-abbrev pub Lettered : ℕ → List ℕ → Type 0
-Lettered a w = (d : List ℕ) × (is_numeral d ≡ true) × (w ≡ a ∷ d)
-
--- a word of some kind; H is 72, P is 80 and # is 35
-abbrev pub Known : List ℕ → Type 0
-Known w = (w ≡ arrow_text) ⊎ ((w ≡ blank_text) ⊎ (Lettered 72 w ⊎ (Lettered 80 w ⊎ Lettered 35 w)))
-
 -- what a number after a letter is: H is 72, P is 80 and # is 35
 abbrev pub lettered : ℕ → ℕ → Kind
 lettered a n = cond (a == 72) (head n) (cond (a == 80) (pattern n) (cond (a == 35) (cost n) unknown))
@@ -86,9 +78,4 @@ kind_of (Unknown w at) = unknown
 
 -- the word is of the token's kind
 abbrev pub Sound : Token → Type 0
-Sound (Arrow w at) = w.now ≡ arrow_text
-Sound (Blank w at) = w.now ≡ blank_text
-Sound (Head w at) = Lettered 72 w.now
-Sound (Pattern w at) = Lettered 80 w.now
-Sound (Cost w at) = Lettered 35 w.now
-Sound (Unknown w at) = Known w.now → ⊥
+Sound t = kind (word_of t) ≡ kind_of t

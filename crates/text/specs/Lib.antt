@@ -1,9 +1,6 @@
 pub mod Faults
 pub mod Kinds
-pub mod Limits
-pub mod Lines
 pub mod Numbers
 pub mod Outcomes
-pub mod Stages
 pub mod Turns
 pub mod Words

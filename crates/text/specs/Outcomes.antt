@@ -3,10 +3,12 @@ use Rattle.std.specs.Prelude.{◌≡◌, ℕ, ◌+◌, ◌-◌, ◌<◌, ◌≤�
 use Rattle.grammar.specs.Lists.{Mem, each}
 use Rattle.grammar.specs.Productions.{Production}
 use Rattle.text.specs.Faults.{line_fault_number, line_fault_place}
-use Rattle.text.specs.Kinds.{Kind, arrow, blank, head, pattern, cost, unknown, arrow_text, blank_text, kind}
-use Rattle.text.specs.Words.{Piece}
+use Rattle.text.specs.Kinds.{Kind, arrow, blank, head, pattern, cost, unknown, arrow_text, blank_text, kind, word_of, place_of}
+use Rattle.text.specs.Numbers.{is_numeral, decimal as decimal_of}
+use Rattle.text.specs.Words.{Piece, piece}
 use Rattle.text.specs.declared.fault.LineFault.{LineFault}
 use Rattle.text.specs.declared.rule_line.RuleLine.{RuleLine}
+use Rattle.text.specs.declared.token.Token.{Token}
 
 -- what a line gives: nothing, a rule, or a refusal with its number and its byte place
 pub data Outcome : Type 0 where
@@ -20,55 +22,37 @@ written h right c = record { head = h; right = right; cost = c }
 
 -- the number of the refusal of a word that may not stand where it does: unknown, over its limit, or else out of place
 abbrev pub refusal_of : Kind → ℕ
-refusal_of arrow = 22
-refusal_of blank = 22
 refusal_of (head n) = cond (nat_lt 31 n) 21 22
 refusal_of (pattern n) = cond (nat_lt 31 n) 21 22
 refusal_of (cost n) = cond (nat_lt 65535 n) 21 22
 refusal_of unknown = 20
+refusal_of _ = 22
 
 -- a head within its limit
 abbrev pub head_of : Kind → Option ℕ
-head_of arrow = None
-head_of blank = None
 head_of (head n) = cond (nat_le n 31) (Some n) None
-head_of (pattern n) = None
-head_of (cost n) = None
-head_of unknown = None
+head_of _ = None
 
 -- an item within its limit: head h is h, pattern t is 32 + t
 abbrev pub item_of : Kind → Option ℕ
-item_of arrow = None
-item_of blank = None
 item_of (head n) = cond (nat_le n 31) (Some n) None
 item_of (pattern n) = cond (nat_le n 31) (Some (32 + n)) None
-item_of (cost n) = None
-item_of unknown = None
+item_of _ = None
 
 -- a cost within its limit
 abbrev pub cost_of : Kind → Option ℕ
-cost_of arrow = None
-cost_of blank = None
-cost_of (head n) = None
-cost_of (pattern n) = None
 cost_of (cost n) = cond (nat_le n 65535) (Some n) None
-cost_of unknown = None
+cost_of _ = None
 
+-- an arrow
 abbrev pub is_arrow : Kind → Bool
 is_arrow arrow = true
-is_arrow blank = false
-is_arrow (head n) = false
-is_arrow (pattern n) = false
-is_arrow (cost n) = false
-is_arrow unknown = false
+is_arrow _ = false
 
+-- blank
 abbrev pub is_blank : Kind → Bool
-is_blank arrow = false
 is_blank blank = true
-is_blank (head n) = false
-is_blank (pattern n) = false
-is_blank (cost n) = false
-is_blank unknown = false
+is_blank _ = false
 
 -- one thing of what is there, another of nothing
 abbrev pub by : {A : Type 0} → Option ℕ → A → (ℕ → A) → A
@@ -167,6 +151,13 @@ Means end ws nothing = ws ≡ []
 Means end ws (rule p) = Says (kinds ws) p
 Means end ws (fault n at) = WordRefused ws n at ⊎ LineTooShort end ws n at
 
+-- a word with a number of any length: over its limit it meets 21; with a leading zero before more it is unknown and meets 20
+pub record OfDigits (d : List ℕ) : Type 0 where
+  pub head_over : is_numeral d ≡ true → 31 < decimal_of d → refusal_of (kind (72 ∷ d)) ≡ 21
+  pub pattern_over : is_numeral d ≡ true → 31 < decimal_of d → refusal_of (kind (80 ∷ d)) ≡ 21
+  pub cost_over : is_numeral d ≡ true → 65535 < decimal_of d → refusal_of (kind (35 ∷ d)) ≡ 21
+  pub zero_first : (a : ℕ) → 0 < length d → refusal_of (kind (a ∷ (48 ∷ d))) ≡ 20
+
 -- A production as text
 
 -- how a word of that kind is written
@@ -193,16 +184,20 @@ line_text p = spaced (map word_text (front_kinds p ++ (cost p.cost ∷ [])))
 abbrev pub production_said : RuleLine → Production
 production_said l = written l.head (take l.len l.items) l.cost
 
--- what a reader of the rest of a line gives
+-- a refusal as an outcome
+abbrev pub fault_said : LineFault → Outcome
+fault_said f = fault (line_fault_number f) (line_fault_place f)
+
+-- what the reader of the rest of a line gives
 abbrev pub said : Result RuleLine LineFault → Outcome
 said (Ok l) = rule (production_said l)
-said (Err f) = fault (line_fault_number f) (line_fault_place f)
+said (Err f) = fault_said f
 
 -- what the reader of a line gives
 abbrev pub line_said : Result (Option RuleLine) LineFault → Outcome
 line_said (Ok None) = nothing
 line_said (Ok (Some l)) = rule (production_said l)
-line_said (Err f) = fault (line_fault_number f) (line_fault_place f)
+line_said (Err f) = fault_said f
 
 -- a production with its first nine items, which stand for nine and more: a book refuses both alike
 abbrev pub first_nine : Production → Production
@@ -213,3 +208,7 @@ abbrev pub in_nine : Outcome → Outcome
 in_nine nothing = nothing
 in_nine (rule p) = rule (first_nine p)
 in_nine (fault n at) = fault n at
+
+-- a token's word as a piece of the text
+abbrev pub token_piece : Token → Piece
+token_piece t = piece (place_of t) (word_of t)

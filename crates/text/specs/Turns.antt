@@ -1,7 +1,7 @@
 -- The lines and the words of a text, one by one.
-use Rattle.std.specs.Prelude.{◌≡◌, ℕ, ◌+◌, ◌<◌, ◌≤◌, true, List, [], ◌∷◌, length, take, drop, Option, MatchOption, slice_index}
+use Rattle.std.specs.Prelude.{◌≡◌, ◌+◌, ◌<◌, ◌≤◌, List, length, take, drop, Option, MatchOption}
 use Rattle.text.specs.Outcomes.{Outcome, line}
-use Rattle.text.specs.Words.{Piece, parts, piece, words, IsWord, IsLineEnd}
+use Rattle.text.specs.Words.{Piece, piece, words, IsLineEnd}
 use Rattle.text.specs.declared.lines.Line.{Line}
 use Rattle.text.specs.declared.lines.Lines.{Lines}
 use Rattle.text.specs.declared.words.Word.{Word}
@@ -28,21 +28,10 @@ pub record IsNextLine (was : Lines) (l : Line) (is : Lines) : Type 0 where
 abbrev pub NextLine : Lines → Option Line → Lines → Type 0
 NextLine was r is = MatchOption r ((length was.text.now ≤ was.from) × (is ≡ was)) (λ l. IsNextLine was l is)
 
--- the next word is the first from the place reached on, before the end, and the word after it comes past that
-pub record IsNextWord (was : Words) (w : Word) (is : Words) : Type 0 where
-  pub word : IsWord was.text.now was.from w.place w.bytes.now
-  pub begins : w.place < was.end
-  pub past : is.from ≡ w.place + length w.bytes.now
-  pub same : is.text.now ≡ was.text.now
-  pub same_end : is.end ≡ was.end
-  pub first : was.end ≡ length was.text.now → words was.from (drop was.from was.text.now) ≡ piece w.place w.bytes.now ∷ words is.from (drop is.from was.text.now)
+-- a word as a piece of the text
+abbrev pub piece_of : Word → Piece
+piece_of w = piece w.place w.bytes.now
 
--- no word begins before the end
-pub record NoNextWord (was is : Words) : Type 0 where
-  pub gap : (k : ℕ) → was.from ≤ k → k < was.end → k < length was.text.now → parts (slice_index was.text.now k) ≡ true
-  pub same : is ≡ was
-  pub none : was.end ≡ length was.text.now → words was.from (drop was.from was.text.now) ≡ []
-
--- the next word is given, or none where there is none
-abbrev pub NextOfWords : Words → Option Word → Words → Type 0
-NextOfWords was r is = MatchOption r (NoNextWord was is) (λ w. IsNextWord was w is)
+-- the words that are still to come
+abbrev pub words_left : Words → List Piece
+words_left s = words s.from (drop s.from s.text.now)

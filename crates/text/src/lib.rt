@@ -6,7 +6,7 @@ pub mod fault;
 pub mod lexer;
 pub mod lines;
 pub mod reader;
-mod reading;
 pub mod rule_line;
 pub mod token;
+mod tokens;
 pub mod words;

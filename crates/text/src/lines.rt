@@ -1,7 +1,6 @@
 // The lines of a text.
 ghost use Rattle.std.specs.Prelude.{◌≡◌, ◌-◌, ◌≤◌, length, drop};
 ghost use Rattle.std.specs.Iterator.{at_most};
-ghost use Rattle.text.specs.Lines.{LineSays, NothingElse, Limits};
 ghost use Rattle.text.specs.Outcomes.{line_said, in_nine};
 
 use crate::fault::LineFault;
@@ -31,19 +30,15 @@ impl<'t> Line<'t> {
     pub fn words(self) -> Words<'t>
         ensures text { result.text.now ≡ self.entry.text.now }
         ensures from { result.from ≡ self.entry.from }
-        ensures end { result.end ≡ length self.entry.text.now }
     {
-        Words::of(self.text, self.from, self.text.len())
+        Words::of(self.text, self.from)
     }
 
     // The rule that its words say, or none where there is no word.
     pub fn rule(self) -> Result<Option<RuleLine>, LineFault>
-        ensures says { LineSays self.entry.text.now self.entry.from (length self.entry.text.now) result }
-        ensures only { NothingElse self.entry.text.now self.entry.from (length self.entry.text.now) result }
-        ensures limits { Limits (length self.entry.text.now) result }
-        ensures means { line_said result ≡ in_nine (outcome_of self.entry) }
+        ensures { line_said result ≡ in_nine (outcome_of self.entry) }
     {
-        rule_line(self.text, self.from, self.text.len())
+        rule_line(self.text, self.from)
     }
 }
 

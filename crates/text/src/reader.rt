@@ -1,126 +1,99 @@
-ghost use Rattle.std.specs.Prelude.{◌≡◌, ◌<◌, ◌≤◌, true, length, drop, MatchResult};
-ghost use Rattle.text.specs.Kinds.{place_of, Sound};
-ghost use Rattle.text.specs.Numbers.{decimal, all_digits};
-ghost use Rattle.text.specs.Stages.{after};
-ghost use Rattle.text.specs.Limits.{limit_of};
-ghost use Rattle.text.specs.Lines.{said_of, with_word, NumberSays, StepSays, outcome, LineSays, NothingElse, Limits};
+// Reads the words of a line part by part, as the law of a line has them: the head, the arrow, the right side, at most a cost.
+ghost use Rattle.std.specs.Prelude.{◌≡◌, [], ◌∷◌, length, take, drop};
+ghost use Rattle.text.specs.Kinds.{Sound};
+ghost use Rattle.text.specs.Outcomes.{rule, no_more, cost_part, item_part, right_part, arrow_part, line, production_said, said, line_said, in_nine, token_piece};
+ghost use Rattle.text.specs.Turns.{words_left};
 ghost use Rattle.text.specs.Words.{words};
-ghost use Rattle.text.specs.Outcomes.{line, line_said, in_nine};
 
-use crate::digits::number;
 use crate::fault::LineFault;
-use crate::lexer::classify;
-use crate::reading::{Reading, Stage};
 use crate::rule_line::RuleLine;
 use crate::token::Token;
+use crate::tokens::{cost_of, head_of, is_arrow, is_blank, item_of, misplaced, next_token};
 use crate::words::Words;
 
-// The place of a token's word.
-fn place_of(token: Token<'_>) -> usize
-    ensures { result ≡ place_of token.entry }
+// Behind the cost: no word.
+fn no_more(line: RuleLine, words: Words<'_>) -> Result<RuleLine, LineFault>
+    ensures { said result ≡ no_more (rule (production_said line)) (words_left words.entry) }
 {
-    match token {
-        Token::Arrow(_, at)
-        | Token::Blank(_, at)
-        | Token::Head(_, at)
-        | Token::Pattern(_, at)
-        | Token::Cost(_, at)
-        | Token::Unknown(_, at) => at,
+    let mut words = words;
+    match next_token(&mut words) {
+        Some(token) => Err(misplaced(token)),
+        None => Ok(line),
     }
 }
 
-// The number after a word's letter, refused over a limit.
-fn lettered_number(word: &[u8], at: usize, limit: u32) -> Result<u32, LineFault>
-    requires { (0 < length word.now) × (all_digits (drop 1 word.now) ≡ true) }
-    ensures { MatchResult result (λ n. (n ≡ decimal (drop 1 word.now)) × (n ≤ limit)) (λ f. (f ≡ LineFault.OverLimit at) × (limit < decimal (drop 1 word.now))) }
-{
-    number(&word[1..], limit).ok_or(LineFault::OverLimit(at))
-}
-
-// The number that a word says: an unknown word and one over its limit are refused. A word without a number says 0, which nothing reads,
-// so there is no Option of it.
-fn number_of(token: Token<'_>) -> Result<u32, LineFault>
+// Behind the right side: a word, which must be a cost, and no other.
+fn cost_word(line: RuleLine, token: Token<'_>, words: Words<'_>) -> Result<RuleLine, LineFault>
     requires { Sound token }
-    ensures { NumberSays token.entry result }
+    ensures { said result ≡ cost_part line.head (take line.len line.items) (token_piece token.entry ∷ words_left words.entry) }
 {
-    match token {
-        Token::Arrow(..) | Token::Blank(..) => Ok(0),
-        // a head and a pattern have limits of their own, which are the same number
-        Token::Head(word, at) => lettered_number(word, at, 31),
-        Token::Pattern(word, at) => lettered_number(word, at, 31),
-        Token::Cost(word, at) => lettered_number(word, at, 65535),
-        Token::Unknown(_, at) => Err(LineFault::Unknown(at)),
+    let cost = cost_of(token).ok_or(misplaced(token))?;
+    no_more(line.with_cost(cost), words)
+}
+
+// Behind the right side: at most a cost.
+fn cost_part(line: RuleLine, words: Words<'_>) -> Result<RuleLine, LineFault>
+    requires { line.cost ≡ 0 }
+    ensures { said result ≡ cost_part line.head (take line.len line.items) (words_left words.entry) }
+{
+    let mut words = words;
+    match next_token(&mut words) {
+        Some(token) => cost_word(line, token, words),
+        None => Ok(line),
     }
 }
 
-// The stage after a word, if the word may stand there.
-fn next_stage(stage: Stage, token: Token<'_>) -> Option<Stage>
-    ensures { result ≡ after stage token.entry }
+// Behind an item: further items, then at most a cost.
+fn item_part(line: RuleLine, words: Words<'_>) -> Result<RuleLine, LineFault>
+    requires { line.cost ≡ 0 }
+    ensures { said result ≡ in_nine (item_part line.head (take line.len line.items) (words_left words.entry)) }
 {
-    match (stage, token) {
-        (Stage::Start, Token::Head(..)) => Some(Stage::AfterHead),
-        (Stage::AfterHead, Token::Arrow(..)) => Some(Stage::AfterArrow),
-        (Stage::AfterArrow, Token::Blank(..)) => Some(Stage::AfterBlank),
-        (Stage::AfterArrow | Stage::AfterItem, Token::Head(..) | Token::Pattern(..)) => {
-            Some(Stage::AfterItem)
+    let mut line = line;
+    let mut words = words;
+    while let Some(token) = next_token(&mut words) {
+        match item_of(token) {
+            Some(item) => line = line.with_item(item),
+            None => return cost_word(line, token, words),
         }
-        (Stage::AfterItem | Stage::AfterBlank, Token::Cost(..)) => Some(Stage::AfterCost),
-        _ => None,
     }
+    Ok(line)
 }
 
-// The line with a word's number in its place.
-fn with_word(was: Reading, token: Token<'_>, n: u32) -> RuleLine
-    requires { n ≤ limit_of token }
-    ensures { said_of result ≡ with_word was.stage (said_of was.line) token.entry n }
+// Behind the arrow, in a line that ends at a place: blank or an item.
+fn right_part(head: u8, words: Words<'_>, end: usize) -> Result<RuleLine, LineFault>
+    ensures { said result ≡ in_nine (right_part end head (words_left words.entry)) }
 {
-    match (was.stage, token) {
-        (Stage::Start, Token::Head(..)) => was.line.with_head(n as u8),
-        (_, Token::Head(..)) => was.line.with_item(n as u8),
-        (_, Token::Pattern(..)) => was.line.with_item(32 + n as u8),
-        (_, Token::Cost(..)) => was.line.with_cost(n as u16),
-        (_, Token::Arrow(..) | Token::Blank(..) | Token::Unknown(..)) => was.line,
+    let mut words = words;
+    let token = next_token(&mut words).ok_or(LineFault::TooShort(end))?;
+    let line = RuleLine::of(head);
+    if is_blank(token) {
+        return cost_part(line, words);
     }
+    let item = item_of(token).ok_or(misplaced(token))?;
+    item_part(line.with_item(item), words)
 }
 
-// Reads one word more: its kind, its number and its place are tested in this order.
-fn step(was: Reading, token: Token<'_>) -> Result<Reading, LineFault>
-    requires { Sound token }
-    ensures { StepSays was token.entry result }
+// Behind the head, in a line that ends at a place: the arrow.
+fn arrow_part(head: u8, words: Words<'_>, end: usize) -> Result<RuleLine, LineFault>
+    ensures { said result ≡ in_nine (arrow_part end head (words_left words.entry)) }
 {
-    let n = number_of(token)?;
-    let stage = next_stage(was.stage, token).ok_or(LineFault::OutOfPlace(place_of(token)))?;
-    Ok(Reading {
-        stage,
-        line: with_word(was, token, n),
-    })
-}
-
-// What a line says that ends here.
-fn finished(reading: Reading, end: usize) -> Result<Option<RuleLine>, LineFault>
-    ensures { result ≡ outcome reading.stage reading.line end }
-{
-    match reading.stage {
-        Stage::Start => Ok(None),
-        Stage::AfterHead | Stage::AfterArrow => Err(LineFault::TooShort(end)),
-        Stage::AfterItem | Stage::AfterBlank | Stage::AfterCost => Ok(Some(reading.line)),
+    let mut words = words;
+    let token = next_token(&mut words).ok_or(LineFault::TooShort(end))?;
+    if !is_arrow(token) {
+        return Err(misplaced(token));
     }
+    right_part(head, words, end)
 }
 
-// The rule that the words of from..end say, or none where there is no word.
-pub fn rule_line(text: &[u8], from: usize, end: usize) -> Result<Option<RuleLine>, LineFault>
-    requires { end ≤ length text.now }
-    ensures says { LineSays text.now from end result }
-    ensures only { NothingElse text.now from end result }
-    ensures limits { Limits end result }
-    ensures means { end ≡ length text.now → line_said result ≡ in_nine (line (length text.now) (words from (drop from text.now))) }
+// The rule that the words from a place to the end of the text say, or none where there is no word.
+pub fn rule_line(text: &[u8], from: usize) -> Result<Option<RuleLine>, LineFault>
+    ensures { line_said result ≡ in_nine (line (length text.now) (words from (drop from text.now))) }
 {
-    let mut reading = Reading {
-        stage: Stage::Start,
-        line: RuleLine::bare(),
+    let mut words = Words::of(text, from);
+    let Some(token) = next_token(&mut words) else {
+        return Ok(None);
     };
-    for word in Words::of(text, from, end) {
-        reading = step(reading, classify(word.bytes, word.place))?;
-    }
-    finished(reading, end)
+    let head = head_of(token).ok_or(misplaced(token))?;
+    let line = arrow_part(head, words, text.len())?;
+    Ok(Some(line))
 }

@@ -1,4 +1,4 @@
-ghost use Rattle.std.specs.Prelude.{◌≡◌, ℕ, ◌<◌, ◌≤◌, [], ◌∷◌, ◌++◌, length, take, slice_index};
+ghost use Rattle.std.specs.Prelude.{◌≡◌, ◌≤◌, [], ◌∷◌, ◌++◌, length, take};
 
 // A rule as a line says it: head h is h, pattern t is 32 + t. Nine items stand for nine or more.
 // The items are an array with a length, since the kit's vector of fixed capacity is not Copy and a rule line is.
@@ -11,20 +11,17 @@ pub struct RuleLine {
     cost: u16,
     ghost sized: { length items ≡ 9 },
     ghost short: { len ≤ 9 },
-    ghost named: { head ≤ 31 },
-    ghost known: { (k : ℕ) → slice_index items k < 64 },
-    ghost held: { cost ≤ 65535 },
 }
 
 impl RuleLine {
-    // No items, head 0, cost 0.
-    pub(crate) fn bare() -> RuleLine
-        ensures head { result.head ≡ 0 }
+    // A head, with no items and cost 0.
+    pub(crate) fn of(head: u8) -> RuleLine
+        ensures head { result.head ≡ head }
         ensures right { take result.len result.items ≡ [] }
         ensures cost { result.cost ≡ 0 }
     {
         RuleLine {
-            head: 0,
+            head,
             items: [0; 9],
             len: 0,
             cost: 0,
@@ -50,21 +47,8 @@ impl RuleLine {
         self.cost
     }
 
-    // Another head. The toolchain refuses `RuleLine { head, ..self }` where a struct has ghost fields; so in with_cost.
-    pub(crate) fn with_head(self, head: u8) -> RuleLine
-        requires { head ≤ 31 }
-        ensures head { result.head ≡ head }
-        ensures right { take result.len result.items ≡ take self.len self.items }
-        ensures cost { result.cost ≡ self.cost }
-    {
-        let mut line = self;
-        line.head = head;
-        line
-    }
-
     // One item more at the end; the tenth and further ones are dropped.
     pub(crate) fn with_item(self, item: u8) -> RuleLine
-        requires { item < 64 }
         ensures head { result.head ≡ self.head }
         ensures right { take result.len result.items ≡ take 9 (take self.len self.items ++ (item ∷ [])) }
         ensures cost { result.cost ≡ self.cost }
@@ -78,6 +62,7 @@ impl RuleLine {
         line
     }
 
+    // Another cost. The toolchain refuses `RuleLine { cost, ..self }` where a struct has ghost fields.
     pub(crate) fn with_cost(self, cost: u16) -> RuleLine
         ensures head { result.head ≡ self.head }
         ensures right { take result.len result.items ≡ take self.len self.items }

@@ -1,8 +1,8 @@
-ghost use Rattle.std.specs.Prelude.{◌≡◌, ℕ, ◌+◌, ◌-◌, ◌<◌, ◌≤◌, true, false, not, [], ◌∷◌, length, drop, MatchOption, slice_index};
+ghost use Rattle.std.specs.Prelude.{◌≡◌, ℕ, ◌+◌, ◌-◌, ◌<◌, ◌≤◌, true, false, not, [], ◌∷◌, length, drop, MatchOption, IfSome, slice_index};
 ghost use Rattle.std.specs.List.{prefix_len};
-ghost use Rattle.std.specs.Iterator.{at_most};
-ghost use Rattle.text.specs.Words.{ends_line, parts, piece, words, IsWord, IsLineEnd};
-ghost use Rattle.text.specs.Turns.{NextOfWords};
+ghost use Rattle.std.specs.Iterator.{at_most, YieldsFirstBy};
+ghost use Rattle.text.specs.Words.{ends_line, parts, words, IsLineEnd};
+ghost use Rattle.text.specs.Turns.{piece_of, words_left};
 
 // A word and its byte place in the text.
 #[derive(Clone, Copy)]
@@ -11,34 +11,32 @@ pub struct Word<'a> {
     pub place: usize,
 }
 
-// The words of a text that are still to come: the next is the first that begins from a place on, before the end.
+// The words of a text that are still to come: those that begin from a place on.
 #[derive(Clone, Copy)]
 pub struct Words<'t> {
     text: &'t [u8],
     from: usize,
-    end: usize,
 }
 
 impl<'t> Words<'t> {
-    // The words that begin in from..end.
-    pub fn of(text: &'t [u8], from: usize, end: usize) -> Words<'t>
+    // The words of a text from a place on.
+    pub fn of(text: &'t [u8], from: usize) -> Words<'t>
         ensures text { result.text.now ≡ text.now }
         ensures from { result.from ≡ from }
-        ensures end { result.end ≡ end }
     {
-        Words { text, from, end }
+        Words { text, from }
     }
 }
 
 impl<'t> Iterator for Words<'t> {
     type Item = Word<'t>;
 
-    ghost next_gives = { NextOfWords };
+    ghost next_gives = { YieldsFirstBy piece_of words_left };
 
-    ghost remaining = { λ s. at_most (s.end - s.from) };
+    ghost remaining = { λ s. at_most (length s.text.now - s.from) };
 
     fn next(&mut self) -> Option<Word<'t>> {
-        let word = next_word(self.text, self.from, self.end)?;
+        let word = next_word(self.text, self.from)?;
         self.from = word.place + word.bytes.len();
         Some(word)
     }
@@ -82,14 +80,14 @@ pub fn line_end(text: &[u8], from: usize) -> usize
     from + line_len(&text[from..])
 }
 
-// The first place of from..end whose byte parts no words, or the end.
-fn word_start(text: &[u8], from: usize, end: usize) -> usize
-    requires { (from ≤ end) × (end ≤ length text.now) }
-    ensures within { (from ≤ result) × (result ≤ end) }
+// The first place from a place on whose byte parts no words, or the end of the text.
+fn word_start(text: &[u8], from: usize) -> usize
+    requires { from ≤ length text.now }
+    ensures within { (from ≤ result) × (result ≤ length text.now) }
     ensures before { (k : ℕ) → from ≤ k → k < result → parts (slice_index text.now k) ≡ true }
-    ensures found { result < end → parts (slice_index text.now result) ≡ false }
+    ensures found { result < length text.now → parts (slice_index text.now result) ≡ false }
 {
-    from + gap_len(&text[from..end])
+    from + gap_len(&text[from..])
 }
 
 // The first place from a place on whose byte parts words, or the end of the text.
@@ -102,17 +100,16 @@ fn word_end(text: &[u8], from: usize) -> usize
     from + word_len(&text[from..])
 }
 
-// The next word that begins in from..end.
-pub fn next_word(text: &[u8], from: usize, end: usize) -> Option<Word<'_>>
-    ensures found { MatchOption result ((k : ℕ) → from ≤ k → k < end → k < length text.now → parts (slice_index text.now k) ≡ true) (λ w. IsWord text.now from w.place w.bytes.now × (w.place < end)) }
-    ensures is { end ≡ length text.now → MatchOption result (words from (drop from text.now) ≡ []) (λ w. words from (drop from text.now) ≡ piece w.place w.bytes.now ∷ words (w.place + length w.bytes.now) (drop (w.place + length w.bytes.now) text.now)) }
+// The first word from a place on.
+pub fn next_word(text: &[u8], from: usize) -> Option<Word<'_>>
+    ensures is { MatchOption result (words from (drop from text.now) ≡ []) (λ w. words from (drop from text.now) ≡ piece_of w ∷ words (w.place + length w.bytes.now) (drop (w.place + length w.bytes.now) text.now)) }
+    ensures past { IfSome result (λ w. (from < w.place + length w.bytes.now) × (w.place + length w.bytes.now ≤ length text.now)) }
 {
-    let stop = end.min(text.len());
-    if from >= stop {
+    if from >= text.len() {
         return None;
     }
-    let place = word_start(text, from, stop);
-    if place == stop {
+    let place = word_start(text, from);
+    if place == text.len() {
         return None;
     }
     let past = word_end(text, place);

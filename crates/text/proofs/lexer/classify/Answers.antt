@@ -1,8 +1,8 @@
 use Rattle.std.proofs.Common.{◌≡◌, ℕ, ◌-◌, ◌<◌, true, ◌⊎◌, List, length, get_or, take, drop, sym, refl, ap, ◌∙◌, inl, inr, arith, rules}
-use Rattle.text.specs.Kinds.{Known}
-use Rattle.text.specs.Numbers.{is_numeral}
+use Rattle.text.specs.Kinds.{arrow, blank, head, pattern, cost, kind}
+use Rattle.text.specs.Numbers.{is_numeral, decimal}
 use Rattle.text.specs.declared.token.Token.TheVariants.{Arrow, Blank, Head, Pattern, Cost, Unknown}
-use Rattle.text.proofs.Spelled.{of_two, of_five, lettered, rest_of, sound_kind}
+use Rattle.text.proofs.Spelled.{Known, of_two, of_five, lettered, rest_of, sound_kind}
 use Rattle.text.proofs.lexer.classify.Goals as goal
 
 -- a known word by its length and bytes: an arrow, blank, or a letter before a number
@@ -18,25 +18,41 @@ looks w (inr (inr (inl (d, t, e)))) = inr (inr (omega (arith, ap length e), ap i
 looks w (inr (inr (inr (inl (d, t, e))))) = inr (inr (omega (arith, ap length e), ap is_numeral (rest_of w d 80 e) ∙ t, inr (inl (ap (λ v. get_or v 0 0) e))))
 looks w (inr (inr (inr (inr (d, t, e))))) = inr (inr (omega (arith, ap length e), ap is_numeral (rest_of w d 35 e) ∙ t, inr (inr (ap (λ v. get_or v 0 0) e))))
 
+-- what the word is follows from how it is spelled
 pub returns-in-45-clause-is : goal.returns-in-45-clause-is
-returns-in-45-clause-is c = sym (sound_kind (Arrow c.args.word c.args.at) (of_two c.args.word.now 45 62 (search rules) (search rules) (search rules)))
-
-pub returns-in-blank-clause-sound : goal.returns-in-blank-clause-sound
-returns-in-blank-clause-sound c = of_five c.args.word.now 98 108 97 110 107 (search rules) (search rules) (search rules) (search rules) (search rules) (search rules)
+returns-in-45-clause-is c =
+    let w = c.args.word in
+    let k : kind w.now ≡ arrow = sound_kind (Arrow w c.args.at) (of_two w.now 45 62 (search rules) (search rules) (search rules)) in
+    cc
 
 pub returns-in-blank-clause-is : goal.returns-in-blank-clause-is
-returns-in-blank-clause-is c = sym (sound_kind (Blank c.args.word c.args.at) (of_five c.args.word.now 98 108 97 110 107 (search rules) (search rules) (search rules) (search rules) (search rules) (search rules)))
+returns-in-blank-clause-is c =
+    let w = c.args.word in
+    let k : kind w.now ≡ blank = sound_kind (Blank w c.args.at) (of_five w.now 98 108 97 110 107 (search rules) (search rules) (search rules) (search rules) (search rules) (search rules)) in
+    cc
 
 pub returns-in-72-clause-is : goal.returns-in-72-clause-is
-returns-in-72-clause-is c = let w = c.args.word.now in let h : get_or w 0 0 ≡ 72 = grind arith in sym (sound_kind (Head c.args.word c.args.at) (lettered w 72 (omega arith) h (sym c.if-is_numeral-2.ensures)))
+returns-in-72-clause-is c =
+    let w = c.args.word in
+    let h : get_or w.now 0 0 ≡ 72 = grind arith in
+    let k : kind w.now ≡ head (decimal (drop 1 w.now)) = sound_kind (Head w c.args.at) (lettered w.now 72 (omega arith) h (sym c.if-is_numeral-2.ensures)) in
+    cc
 
 pub returns-in-80-clause-is : goal.returns-in-80-clause-is
-returns-in-80-clause-is c = let w = c.args.word.now in let h : get_or w 0 0 ≡ 80 = grind arith in sym (sound_kind (Pattern c.args.word c.args.at) (lettered w 80 (omega arith) h (sym c.if-is_numeral.ensures)))
+returns-in-80-clause-is c =
+    let w = c.args.word in
+    let h : get_or w.now 0 0 ≡ 80 = grind arith in
+    let k : kind w.now ≡ pattern (decimal (drop 1 w.now)) = sound_kind (Pattern w c.args.at) (lettered w.now 80 (omega arith) h (sym c.if-is_numeral.ensures)) in
+    cc
 
 pub returns-in-35-clause-is : goal.returns-in-35-clause-is
-returns-in-35-clause-is c = let w = c.args.word.now in let h : get_or w 0 0 ≡ 35 = grind arith in sym (sound_kind (Cost c.args.word c.args.at) (lettered w 35 (omega arith) h (sym c.if-is_numeral-3.ensures)))
+returns-in-35-clause-is c =
+    let w = c.args.word in
+    let h : get_or w.now 0 0 ≡ 35 = grind arith in
+    let k : kind w.now ≡ cost (decimal (drop 1 w.now)) = sound_kind (Cost w c.args.at) (lettered w.now 35 (omega arith) h (sym c.if-is_numeral-3.ensures)) in
+    cc
 
 pub returns-in_default : goal.returns-in_default
 returns-in_default c =
     let no : Known c.args.word.now → ⊥ = λ k. (let l : Looks c.args.word.now = looks c.args.word.now k in grind arith) in
-    record { word = refl; place = refl; sound = no; is = sym (sound_kind (Unknown c.args.word c.args.at) no) }
+    record { word = refl; place = refl; is = sym (sound_kind (Unknown c.args.word c.args.at) no) }

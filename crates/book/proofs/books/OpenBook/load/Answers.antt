@@ -12,7 +12,6 @@ returns g c =
     let T = length b.table.patterns.now in
     let is = c.load.ensures.is ∙ ap (λ T. load T (held b.rules) text) b.over in
     record {
-      says = c.load.ensures.says;
       is = is;
       means = load_means T (held b.rules) text (omega (arith, b.table.few));
       table = refl;

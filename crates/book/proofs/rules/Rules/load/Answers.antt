@@ -1,26 +1,13 @@
-use Rattle.std.proofs.Common.{◌≡◌, ℕ, suc, ◌+◌, ◌<◌, ◌≤◌, Bool, true, false, List, [], ◌∷◌, ◌++◌, length, drop, Ok, sym, ap, ◌∙◌, subst, ⊎_elim, append_assoc, arith}
-use Rattle.std.proofs.lemmas.List.{length_push}
+use Rattle.std.proofs.Common.{◌≡◌, suc, ◌+◌, ◌<◌, ◌≤◌, Bool, length, drop, Ok, sym, ap, ◌∙◌, ⊎_elim, arith}
 use Rattle.std.proofs.lemmas.Result.{err_from_is_err_and}
 use Rattle.std.proofs.lemmas.Bool.{cases_lt}
-use Rattle.grammar.specs.Productions.{Production}
 use Rattle.text.specs.Turns.{words_of, outcome_of}
 use Rattle.text.specs.Words.{lines}
 use Rattle.book.specs.Faults.{load_number, load_place}
 use Rattle.book.specs.Rules.{held}
-use Rattle.book.specs.Loads.{LineLoaded, first_place, offer_line, line_is, load, load_lines, taken}
+use Rattle.book.specs.Loads.{first_place, offer_line, line_is, load, load_lines, taken}
 use Rattle.book.proofs.Loading.{line_taken, line_refuses, text_ends}
 use Rattle.book.proofs.rules.Rules.load.Goals as goal
-
--- one line with a rule
-more_push : (text : List ℕ) (was mid is : List Production) (n : ℕ) → ((more : List Production) × (mid ≡ was ++ more) × (n ≡ length more))
-    → LineLoaded text mid is (Ok true) → (more : List Production) × (is ≡ was ++ more) × (n + 1 ≡ length more)
-more_push text was mid is n (more, e, f) (p, q) =
-    (more ++ (p ∷ []), q ∙ ap (λ l. l ++ (p ∷ [])) e ∙ append_assoc was more (p ∷ []), ap (λ k. k + 1) f ∙ sym (length_push more p))
-
--- one line without
-more_same : (text : List ℕ) (was mid is : List Production) (n : ℕ) → ((more : List Production) × (mid ≡ was ++ more) × (n ≡ length more))
-    → LineLoaded text mid is (Ok false) → (more : List Production) × (is ≡ was ++ more) × (n ≡ length more)
-more_same text was mid is n (more, e, f) q = (more, q ∙ e, f)
 
 pub returns-in_err-load_line-clause-is : goal.returns-in_err-load_line-clause-is
 returns-in_err-load_line-clause-is c =
@@ -55,7 +42,6 @@ loop-line-preserved-then-branch c =
       over = h.over ∙ i.over;
       rest = rest.0;
       done = rest.1;
-      came = more_push l.text.now (held c.args.self.now) b a n i.came (subst (λ v. LineLoaded l.text.now b a (Ok v)) c.if-branch.true h.says);
     }
 
 pub loop-line-preserved : goal.loop-line-preserved
@@ -77,7 +63,6 @@ loop-line-preserved c =
       over = h.over ∙ i.over;
       rest = rest.0;
       done = rest.1;
-      came = more_same l.text.now (held c.args.self.now) b a n i.came (subst (λ v. LineLoaded l.text.now b a (Ok v)) c.if-branch.false h.says);
     }
 
 pub returns-clause-is : goal.returns-clause-is

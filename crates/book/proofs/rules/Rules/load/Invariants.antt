@@ -1,5 +1,4 @@
-use Rattle.std.proofs.Common.{◌≡◌, ◌<◌, ◌≤◌, List, ◌++◌, length, drop}
-use Rattle.grammar.specs.Productions.{Production}
+use Rattle.std.proofs.Common.{◌≡◌, ◌<◌, ◌≤◌, length, drop}
 use Rattle.text.specs.Words.{lines}
 use Rattle.book.specs.Rules.{held}
 use Rattle.book.specs.Loads.{load, load_lines, taken}
@@ -13,5 +12,4 @@ invariant-loop-line l = record {
   over : l.self.patterns ≡ l.initial.self.patterns;
   rest : l.line-iterator.from ≤ length l.text → load l.initial.self.patterns (held l.initial.self) l.text ≡ load_lines l.initial.self.patterns (held l.self) l.lines (lines l.line-iterator.from (drop l.line-iterator.from l.text));
   done : length l.text < l.line-iterator.from → load l.initial.self.patterns (held l.initial.self) l.text ≡ taken (held l.self) l.lines;
-  came : (more : List Production) × (held l.self ≡ held l.initial.self ++ more) × (l.lines ≡ length more);
 }

@@ -28,7 +28,7 @@ returns-in-Ok-clause-is c n =
     let b = c.args.self.now in
     let p = written c.head.result c.right.result.now c.cost.result in
     let q = offered_rule c.in-Some.rule c.head.result c.right.result.now c.cost.result c.head.ensures c.right.ensures c.cost.ensures in
-    let o = ap rule q ∙ ap (λ (v : Option RuleLine). line_said (Ok v)) (sym c.in-Some.is) ∙ c.in_ok-rule.ensures.means in
+    let o = ap rule q ∙ ap (λ (v : Option RuleLine). line_said (Ok v)) (sym c.in-Some.is) ∙ c.in_ok-rule.ensures in
     let s = c.in-Ok.ensures.says in
     line_admitted b.patterns (held b) (held c.offer.new.self) n (first_place (words_of c.args.line)) (outcome_of c.args.line) p o s.0 s.2
 
@@ -38,8 +38,8 @@ returns-in-Err-clause-is c n =
     let ws = words_of c.args.line in
     let p = written c.head.result c.right.result.now c.cost.result in
     let q = offered_rule c.in-Some.rule c.head.result c.right.result.now c.cost.result c.head.ensures c.right.ensures c.cost.ensures in
-    let o = ap rule q ∙ ap (λ (v : Option RuleLine). line_said (Ok v)) (sym c.in-Some.is) ∙ c.in_ok-rule.ensures.means in
+    let o = ap rule q ∙ ap (λ (v : Option RuleLine). line_said (Ok v)) (sym c.in-Some.is) ∙ c.in_ok-rule.ensures in
     let s = c.in-Err.ensures.says in
     let some : refusal b.patterns (held b) p ≡ 0 → ⊥ = λ z. omega (arith, s.0, some_refusal c.in-Err.field-0) in
-    ap (stopped (held c.offer.new.self) 24) (c.first_place.ensures.is (some_words (length c.args.line.text.now) ws p o))
+    ap (stopped (held c.offer.new.self) 24) (c.first_place.ensures (some_words (length c.args.line.text.now) ws p o))
     ∙ line_refused b.patterns (held b) (held c.offer.new.self) n (first_place ws) (outcome_of c.args.line) p o some (ap held s.1)

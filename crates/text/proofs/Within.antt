@@ -1,0 +1,81 @@
+-- Places lie within the text, and what is refused has one of the numbers 20 to 23.
+use Rattle.std.proofs.Common.{◌≡◌, ℕ, ◌+◌, ◌<◌, ◌≤◌, Bool, true, false, cond, ltb, List, [], ◌∷◌, length, get_or, drop, sym, refl, ap, ◌∙◌, subst, inl, inr, ⊎_elim, arith, length-append}
+use Rattle.std.proofs.lemmas.Bool.{both_ways, cond-true, lt-ltb}
+use Rattle.grammar.specs.Lists.{Mem}
+use Rattle.grammar.proofs.Lists.{mem_right, those_mem}
+use Rattle.text.specs.Kinds.{Kind, arrow, blank, head, pattern, cost, unknown, kind, Spelled}
+use Rattle.text.specs.Numbers.{is_numeral, decimal}
+use Rattle.text.specs.Outcomes.{fault, refusal_of, line, Means, OfDigits}
+use Rattle.text.specs.Words.{Piece, pieces, parts, some_byte, words, Cut}
+use Rattle.text.specs.Words.Cut.{last, next}
+use Rattle.text.proofs.Cutting.{cut_is}
+use Rattle.text.proofs.Meaning.{line_means}
+use Rattle.text.proofs.Spelled.{of_kind}
+
+cut_inside : {p : ℕ → Bool} {at : ℕ} {bs : List ℕ} {ps : List Piece} → Cut p at bs ps → (q : Piece) → Mem q ps → q.place + length q.bytes ≤ at + length bs
+cut_inside (last at w h) q (inl e) = omega (arith, ap (λ (r : Piece). r.place + length r.bytes) e)
+cut_inside (last at w h) q (inr m) = absurd m
+cut_inside (next at w b rest ps h t r) q (inl e) = omega (arith, ap (λ (r : Piece). r.place + length r.bytes) e, length-append w (b ∷ rest))
+cut_inside (next at w b rest ps h t r) q (inr m) = omega (arith, cut_inside r q m, length-append w (b ∷ rest))
+
+-- a piece of a text ends within it
+pub pieces_inside : (p : ℕ → Bool) (at : ℕ) (bs : List ℕ) (q : Piece) → Mem q (pieces p at bs) → q.place + length q.bytes ≤ at + length bs
+pieces_inside p at bs q m = cut_inside (cut_is p at bs) q m
+
+-- so does a word
+pub words_inside : (at : ℕ) (bs : List ℕ) (q : Piece) → Mem q (words at bs) → q.place + length q.bytes ≤ at + length bs
+words_inside at bs q m = pieces_inside parts at bs q (those_mem (λ (p : Piece). some_byte p.bytes) q (pieces parts at bs) m).0
+
+-- the number of a word's refusal
+over_range : (b : Bool) → (20 ≤ cond b 21 22) × (cond b 21 22 ≤ 22)
+over_range true = (omega arith, omega arith)
+over_range false = (omega arith, omega arith)
+
+refusal_range : (k : Kind) → (20 ≤ refusal_of k) × (refusal_of k ≤ 22)
+refusal_range arrow = (omega arith, omega arith)
+refusal_range blank = (omega arith, omega arith)
+refusal_range (head n) = over_range (ltb 31 n)
+refusal_range (pattern n) = over_range (ltb 31 n)
+refusal_range (cost n) = over_range (ltb 65535 n)
+refusal_range unknown = (omega arith, omega arith)
+
+-- a line that is refused
+pub line_within : (end : ℕ) (ws : List Piece) (n at : ℕ) → ((w : Piece) → Mem w ws → w.place ≤ end) → line end ws ≡ fault n at → (20 ≤ n) × (n ≤ 23) × (at ≤ end)
+line_within end ws n at inside e = elim (subst (Means end ws) e (line_means end ws)) [
+  | inl r ↦
+      let k = refusal_range (kind r.word.bytes) in
+      let m : Mem r.word ws = subst (Mem r.word) (sym r.are) (mem_right r.word r.before (r.word ∷ r.after) (inl refl)) in
+      (omega (arith, r.number, k.0), omega (arith, r.number, k.1), omega (arith, r.place, inside r.word m))
+  | inr t ↦ (omega (arith, t.number), omega (arith, t.number), omega (arith, t.place))
+]
+
+-- Numbers of any length
+
+second : (w v : List ℕ) → w ≡ v → get_or w 1 0 ≡ get_or v 1 0
+second w v e = ap (λ l. get_or l 1 0) e
+
+zero_is_none : (a c : ℕ) (cs d : List ℕ) (l : ℕ) → is_numeral d ≡ true → a ∷ (48 ∷ (c ∷ cs)) ≡ l ∷ d → ⊥
+zero_is_none a c cs d l num e = both_ways _ refl (ap (λ v. is_numeral (drop 1 v)) e ∙ num)
+
+pub of_digits : (d : List ℕ) → OfDigits d
+of_digits d = record {
+  head_over = λ t o. ap refusal_of ((of_kind (72 ∷ d)).is_kind (head (decimal d)) (d, t, refl, refl)) ∙ cond-true (ltb 31 (decimal d)) 21 22 (lt-ltb 31 (decimal d) o);
+  pattern_over = λ t o. ap refusal_of ((of_kind (80 ∷ d)).is_kind (pattern (decimal d)) (d, t, refl, refl)) ∙ cond-true (ltb 31 (decimal d)) 21 22 (lt-ltb 31 (decimal d) o);
+  cost_over = λ t o. ap refusal_of ((of_kind (35 ∷ d)).is_kind (cost (decimal d)) (d, t, refl, refl)) ∙ cond-true (ltb 65535 (decimal d)) 21 22 (lt-ltb 65535 (decimal d) o);
+  zero_first = λ a s. ap refusal_of (zero_unknown a d s);
+}
+  where
+    spelled_not : (a : ℕ) (d : List ℕ) → 0 < length d → (k : Kind) → Spelled (a ∷ (48 ∷ d)) k → ⊥
+    spelled_not a d s arrow e = omega (arith, second (a ∷ (48 ∷ d)) (45 ∷ (62 ∷ [])) e)
+    spelled_not a d s blank e = omega (arith, second (a ∷ (48 ∷ d)) (98 ∷ (108 ∷ (97 ∷ (110 ∷ (107 ∷ []))))) e)
+    spelled_not a [] s k e = omega (arith, s)
+    spelled_not a (c ∷ cs) s (head n) (v, num, val, e) = zero_is_none a c cs v 72 num e
+    spelled_not a (c ∷ cs) s (pattern n) (v, num, val, e) = zero_is_none a c cs v 80 num e
+    spelled_not a (c ∷ cs) s (cost n) (v, num, val, e) = zero_is_none a c cs v 35 num e
+    spelled_not a (c ∷ cs) s unknown e = e
+
+    zero_unknown : (a : ℕ) (d : List ℕ) → 0 < length d → kind (a ∷ (48 ∷ d)) ≡ unknown
+    zero_unknown a d s = ⊎_elim
+        (λ (u : kind (a ∷ (48 ∷ d)) ≡ unknown). u)
+        (λ (p : Spelled (a ∷ (48 ∷ d)) (kind (a ∷ (48 ∷ d)))). absurd (spelled_not a d s (kind (a ∷ (48 ∷ d))) p))
+        (of_kind (a ∷ (48 ∷ d))).known

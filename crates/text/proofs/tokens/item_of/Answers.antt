@@ -1,0 +1,9 @@
+use Rattle.std.proofs.Common.{refl}
+use Rattle.text.proofs.Spelled.{token_digits}
+use Rattle.text.proofs.tokens.item_of.Goals as goal
+
+pub lettered_number-requires : goal.lettered_number-requires
+lettered_number-requires c = token_digits c.args.token _ c.requires c.in-Head.is refl
+
+pub lettered_number-requires-in-Pattern : goal.lettered_number-requires-in-Pattern
+lettered_number-requires-in-Pattern c = token_digits c.args.token _ c.requires c.in-Pattern.is refl
