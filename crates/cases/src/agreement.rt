@@ -1,5 +1,7 @@
 // Cases that are run.
-ghost use Rattle.std.specs.Prelude.{◌≤◌, length, IfOk};
+ghost use Rattle.std.specs.Prelude.{Ok, IfOk};
+ghost use Rattle.std.specs.Fn.{FnReturnsAt};
+ghost use Rattle.cases.specs.Agreement.{Agreeing};
 
 use std::fmt::Display;
 
@@ -10,7 +12,7 @@ pub fn run_cases<C: Display, F: Fn(&C) -> anyhow::Result<bool>>(
     agrees: F,
 ) -> anyhow::Result<usize>
     requires { F.IsAlwaysCallable agrees }
-    ensures { IfOk result (λ n. n ≤ length cases.now) }
+    ensures { IfOk result (λ n. Agreeing (λ c b. FnReturnsAt F.Fn agrees c (Ok b)) cases.now n) }
 {
     let mut agreed = 0;
     for case in cases {
