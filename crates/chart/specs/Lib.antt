@@ -7,3 +7,5 @@ pub mod Events
 pub mod Feeds
 pub mod Totals
 pub mod Columns
+pub mod Blanks
+pub mod Nodes
