@@ -1,19 +1,26 @@
 -- The nodes of a chosen tree without events, by the productions as they are written, and the rounds that find its symbols.
-use Rattle.std.proofs.Common.{◌≡◌, ℕ, zero, suc, ◌+◌, ◌<◌, ◌≤◌, Bool, true, false, cond, ltb, max, List, [], ◌∷◌, ◌++◌, sym, refl, ap, ◌∙◌, subst, ap₂, inl, inr, arith}
-use Rattle.std.proofs.lemmas.Bool.{both_ways, false≢true, cases_lt, cases_eq, cases_Bool, lt-ltb, le-ltb, cond-true, cond-false, and_parts, and_from}
-use Rattle.std.proofs.lemmas.List.{append-nil}
+use Rattle.std.proofs.Common.{◌≡◌, ℕ, zero, suc, ◌+◌, ◌<◌, ◌≤◌, true, false, cond, ltb, List, [], ◌∷◌, ◌++◌, length, get_or, take, drop, sym, refl, ap, ◌∙◌, subst, ap₂, append_assoc, inl, inr, arith}
+use Rattle.std.proofs.lemmas.Bool.{both_ways, false≢true, cases_lt, cases_eq, cases_Bool, lt-ltb, le-ltb, cond-true, cond-false, or_cases, and_parts, and_from}
+use Rattle.std.proofs.lemmas.List.{append-nil, take_more, take-append-drop}
 use Rattle.grammar.specs.Lists.{Mem, each}
-use Rattle.grammar.specs.Binarised.{Right, empty, unit, binary, terminal, Rule, rule, Binarised, Bounded, Has, Tree, null, over, fork, leaf, width}
+use Rattle.grammar.specs.Binarised.{Right, empty, unit, binary, terminal, Rule, rule, Binarised, Bounded, Has, OwnRule, rules_of, Tree, null, over, fork, leaf, width}
 use Rattle.grammar.specs.Productions.{Book, Sound, Numbers, right_of, head_of, first_tail}
 use Rattle.grammar.specs.Binarise.{one_item, binaries, binarise_right, binarised}
-use Rattle.grammar.specs.Nullable.{ready, nullable_after, nullable, nullable_tree, rule_tree}
+use Rattle.grammar.specs.Nullable.{ready, nullable_after, nullable, nullable_tree, first_ready, rule_tree}
 use Rattle.grammar.specs.Nodes.{Node, mark, tree_nodes}
-use Rattle.grammar.proofs.Nullable.{nullable_derives}
+use Rattle.grammar.proofs.Lists.{first_from}
+use Rattle.grammar.proofs.Nullable.{rule_has, nullable_derives}
 use Rattle.grammar.proofs.Once.{derives_width}
 use Rattle.grammar.proofs.Chosen.{nullable_chosen}
-use Rattle.grammar.proofs.BinarisedRules.{binarised_bounded, binarised_has, one_item_cases, binaries_left, head_rule, head_small, item_small, symbol_rule, tail_same}
+use Rattle.grammar.proofs.BinarisedRules.{get_d_mem, binarised_bounded, binarised_has, one_item_cases, binaries_left, head_rule, head_small, item_small, symbol_rule, tail_same}
+use Rattle.conversion.specs.Views.{right_side_of}
+use Rattle.conversion.specs.Held.{Brings}
+use Rattle.conversion.specs.declared.nullable.Brought.{Brought}
+use Rattle.conversion.proofs.Each.{each_append}
 use Rattle.conversion.proofs.Bringing.{held_on, held_last}
+use Rattle.conversion.proofs.Walking.{brings_ready, brings_tree}
 use Rattle.chart.specs.Blanks.{blank_nodes, AllBlank}
+use Rattle.chart.proofs.BlankRounds.{rounds_in, most_rounds, rounds_low, rounds_high, rounds_under}
 
 -- the node of a rule of a head
 head_mark : (x n at k : ℕ) (l : List Node) → x < 32 → mark x n at k l ≡ record { rule = n; first = at; count = k } ∷ l
@@ -117,18 +124,34 @@ module _ (W : Book) (S : Sound W) where
         λ y m. elim m [ inl q ↦ subst (λ v. nullable_after (binarised W) k v ≡ true) (sym q) r.0 | inr j ↦ i.1 y j ],
       )
 
-  -- only heads among the items are nullable
-  item_head : (k n y : ℕ) → Numbers W n → Mem y (right_of W n) → nullable_after (binarised W) k y ≡ true → y < 32
-  item_head k n y h m t = elim (cases_lt y 32) [
-    | inl l ↦ l
+  -- a tail: the nodes of the items that it stands for, which are nullable
+  pub tail_nodes : (at z n a b : ℕ) (ys : List ℕ) → 64 ≤ z → AllOf (binarised W) (binaries z n (suc z) a b ys) → nullable (binarised W) z ≡ true
+      → (tree_nodes at (nullable_tree (binarised W) z) ≡ blank_nodes (binarised W) at (a ∷ b ∷ ys))
+      × ((y : ℕ) → Mem y (a ∷ b ∷ ys) → nullable (binarised W) y ≡ true)
+  unfolding nullable
+  tail_nodes at z n a b ys h all t =
+      let k = (binarised W).symbols in
+      let d = tail_tree k z n (first_right (suc z) a b ys) h (all _ (first_pair z n (suc z) a b ys)) t in
+      let i = pairs_nodes at k z n (suc z) a b ys (omega arith) all d.0 d.1 in
+      (i.0 ∙ no_mark z n at 0 (blank_nodes (binarised W) at (a ∷ b ∷ ys)) (omega arith), i.1)
+
+  -- of the symbols that are items only heads are nullable
+  found_head : (k y : ℕ) → y < 64 → nullable_after (binarised W) k y ≡ true → y < 32
+  found_head k y l t = elim (cases_lt y 32) [
+    | inl h ↦ h
     | inr g ↦
         let f = found_in k y t in
         let c = nullable_chosen W S f.0 y f.2 f.3 in
-        let l = item_small W S n y h m in
-        let w = S.few_patterns in
-        let s = symbol_rule W S y c.number c.right g (omega arith) c.brings_in.is_rule in
+        let s = symbol_rule W S y c.number c.right g l c.brings_in.is_rule in
         absurd (false≢true (subst (λ r. ready (nullable_after (binarised W) f.0) r ≡ true) s.1.2 c.brings_in.of_found))
   ]
+
+  pub item_below : (n y : ℕ) → Numbers W n → Mem y (right_of W n) → y < 64
+  item_below n y h m = let l = item_small W S n y h m in let w = S.few_patterns in omega arith
+
+  pub nullable_head : (y : ℕ) → y < 64 → nullable (binarised W) y ≡ true → y < 32
+  unfolding nullable
+  nullable_head y l t = found_head (binarised W).symbols y l t
 
   -- a head over its right side
   right_nodes : (at k x n z : ℕ) (b : Right) (ys : List ℕ) → x < z → 64 ≤ z → AllOf (binarised W) (binarise_right x n z ys) → Mem (rule x n b) (binarise_right x n z ys)
@@ -167,5 +190,59 @@ module _ (W : Book) (S : Sound W) where
       (λ q i. binarised_has W n q p.0 (subst (λ v. Mem q (binarise_right v n z (right_of W n))) (sym p.1) i))
       (subst (λ v. Mem (rule x n b) (binarise_right v n z (right_of W n))) p.1 p.2) t e in (
         r.0 ∙ head_mark x n at 0 (blank_nodes (binarised W) at (right_of W n)) l,
-        λ y i. (item_head k n y p.0 i (r.1 y i), r.1 y i),
+        λ y i. (found_head k y (item_below n y p.0 i) (r.1 y i), r.1 y i),
       )
+
+  brings_has : (x : ℕ) (b : Brought) → Brings (binarised W) x b → Has (binarised W) x b.number (right_side_of b.right)
+  unfolding nullable_after
+  brings_has x b h = elim (or_cases (nullable_after (binarised W) b.round x) _ h.1) [
+    | inl t ↦ absurd (both_ways _ h.0 t)
+    | inr t ↦ subst (λ (o : OwnRule). Has (binarised W) x o.0 o.1) (sym h.2)
+        (rule_has (binarised W) x (first_ready (binarised W) (nullable_after (binarised W) b.round) x)
+        (first_from (λ (o : OwnRule). ready (nullable_after (binarised W) b.round) o.1) (zero, empty) (rules_of (binarised W) x) t).0)
+  ]
+
+  brings_early : (x : ℕ) (b : Brought) → Brings (binarised W) x b → b.round < (binarised W).symbols
+  brings_early x b h = elim (cases_lt b.round (binarised W).symbols) [
+    | inl l ↦ l
+    | inr g ↦ absurd (both_ways _ h.0 (held_on (binarised W) bd (binarised W).symbols b.round x g (held_last (binarised W) bd (suc b.round) x h.1)))
+  ]
+
+  -- a head by what brought it in: the node of that rule, then those of the rule's items, which are nullable heads that fewer rounds find
+  module _ (x : ℕ) (l : x < 32) (b : Brought) (h : Brings (binarised W) x b) where
+    pub brought_nodes : (at : ℕ) → tree_nodes at (nullable_tree (binarised W) x) ≡ record { rule = b.number; first = at; count = 0 } ∷ blank_nodes (binarised W) at (right_of W b.number)
+    brought_nodes at = (head_nodes at b.round x b.number (right_side_of b.right) l (brings_has x b h) (brings_ready (binarised W) bd x b h) (brings_tree (binarised W) bd x b h)).0
+
+    brought_items : (y : ℕ) → Mem y (right_of W b.number) → (y < 32) × (nullable_after (binarised W) b.round y ≡ true)
+    brought_items = (head_nodes 0 b.round x b.number (right_side_of b.right) l (brings_has x b h) (brings_ready (binarised W) bd x b h) (brings_tree (binarised W) bd x b h)).1
+
+    pub brought_blank : AllBlank (binarised W) (right_of W b.number)
+    brought_blank y m = let r = brought_items y m in (r.0, found_nullable b.round y r.1)
+
+    pub brought_fewer : most_rounds (binarised W) (right_of W b.number) < rounds_in (binarised W) (binarised W).symbols x
+    brought_fewer =
+        let n = (binarised W).symbols in
+        let low = rounds_under (binarised W) b.round (right_of W b.number) (λ y m. rounds_low (binarised W) bd n b.round y (brought_items y m).1) in
+        let high = rounds_high (binarised W) bd n b.round x (brings_early x b h) h.0 in
+        omega arith
+
+-- items in turn
+
+module _ (B : Binarised) (at : ℕ) (ys : List ℕ) (i : ℕ) where
+  -- those of the first items, then those of the rest
+  pub blank_rest : blank_nodes B at ys ≡ blank_nodes B at (take i ys) ++ blank_nodes B at (drop i ys)
+  blank_rest = ap (blank_nodes B at) (sym (take-append-drop i ys)) ∙ each_append (λ y. tree_nodes at (nullable_tree B y)) (take i ys) (drop i ys)
+
+  module _ (h : i < length ys) where
+    pub blank_at : AllBlank B ys → (get_or ys i 0 < 32) × (nullable B (get_or ys i 0) ≡ true)
+    blank_at all = all (get_or ys i 0) (get_d_mem ys i 0 h)
+
+    -- one item more
+    pub blank_more : (ks : List Node) (k : Node) (l : List Node) → tree_nodes at (nullable_tree B (get_or ys i 0)) ≡ k ∷ l
+        → ((ks ++ blank_nodes B at (take i ys)) ++ (k ∷ [])) ++ l ≡ ks ++ blank_nodes B at (take (i + 1) ys)
+    blank_more ks k l e =
+        let f : ℕ → List Node = λ y. tree_nodes at (nullable_tree B y) in
+        append_assoc (ks ++ blank_nodes B at (take i ys)) (k ∷ []) l
+        ∙ append_assoc ks (blank_nodes B at (take i ys)) (k ∷ l)
+        ∙ ap (λ m. ks ++ (blank_nodes B at (take i ys) ++ m)) (sym (append-nil (f (get_or ys i 0)) ∙ e))
+        ∙ ap (λ m. ks ++ m) (sym (ap (blank_nodes B at) (take_more ys i 0 h) ∙ each_append f (take i ys) (get_or ys i 0 ∷ [])))

@@ -15,5 +15,6 @@ pub mod Filling
 pub mod Totalling
 pub mod ByKind
 pub mod SameColumns
+pub mod BlankRounds
 pub mod BlankNodes
 pub mod NodeTables

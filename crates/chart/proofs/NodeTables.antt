@@ -8,7 +8,7 @@ use Rattle.grammar.specs.Answers.{limit, filled, answer, number, refused}
 use Rattle.grammar.proofs.Tables.{tables}
 use Rattle.chart.specs.declared.node.Node.{Node}
 use Rattle.chart.specs.declared.node_table.NodeTable.{NodeTable}
-use Rattle.chart.specs.Nodes.{node_of, nodes_of, Wrote}
+use Rattle.chart.specs.Nodes.{node_of, nodes_of, Wrote, SameTable}
 
 -- as long as there is room
 filled_fits : (ks t : List TreeNode) → length ks ≤ limit (length t) → filled ks t ≡ ks ++ drop (length ks) t
@@ -72,3 +72,7 @@ module _ (t ks : List TreeNode) (s : NodeTable) (w : Wrote t ks s) where
   pub answer_refused : s.full ≡ true → answer ks (length t) ≡ refused 13
   answer_refused h =
       ap (λ b. cond b (number (length ks)) (refused 13)) (lt-leb (length ks) (limit (length t)) (ltb-true (limit (length t)) (length ks) (sym w.full ∙ h)))
+
+-- one step after another
+pub same_then : (a b c : NodeTable) → SameTable a b → SameTable b c → SameTable a c
+same_then a b c p q = record { table = q.table ∙ p.table; long = q.long ∙ p.long; less = omega (arith, p.less, q.less) }
