@@ -13,6 +13,7 @@ pub mod node;
 mod node_table;
 mod nullable;
 mod pairs;
+pub mod part;
 mod strict;
 pub mod totals;
 mod weighed;
