@@ -57,9 +57,6 @@ abbrev pub AllOf : Binarised → List Rule → Type 0
 AllOf B rs = (r : Rule) → Mem r rs → Mem r B.rules
 
 module _ (W : Book) (S : Sound W) where
-  abbrev B : Binarised
-  B = binarised W
-
   bd : Bounded (binarised W)
   bd = binarised_bounded W S
 
