@@ -16,3 +16,6 @@ pub mod Totalling
 pub mod ByKind
 pub mod SameColumns
 pub mod Running
+pub mod BlankRounds
+pub mod BlankNodes
+pub mod NodeTables

@@ -8,3 +8,5 @@ pub mod Feeds
 pub mod Runs
 pub mod Totals
 pub mod Columns
+pub mod Blanks
+pub mod Nodes

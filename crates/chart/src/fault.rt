@@ -1,6 +1,6 @@
 // Why a call of a chart is refused.
 ghost use Rattle.std.specs.Prelude.{◌≡◌, Some};
-ghost use Rattle.chart.specs.Faults.{feed_number, feed_text, withdraw_number, withdraw_text};
+ghost use Rattle.chart.specs.Faults.{feed_number, feed_text, withdraw_number, withdraw_text, reading_number, reading_text, part_number, part_text};
 
 use std::error::Error;
 use std::fmt;
@@ -36,14 +36,14 @@ impl Error for FeedFault {}
 
 // Why a withdrawal is refused.
 #[derive(Clone, Copy, Debug, PartialEq, Eq)]
-pub(crate) enum WithdrawFault {
+pub enum WithdrawFault {
     // more events than are held
     TooMany = 12,
 }
 
 impl WithdrawFault {
     // The number of the refusal.
-    pub(crate) fn number(self) -> u8
+    pub fn number(self) -> u8
         ensures { result ≡ withdraw_number self }
     {
         self as u8
@@ -62,3 +62,65 @@ impl fmt::Display for WithdrawFault {
 }
 
 impl Error for WithdrawFault {}
+
+// Why a reading is refused.
+#[derive(Clone, Copy, Debug, PartialEq, Eq)]
+pub enum ReadingFault {
+    // more nodes than 65,535, or than the table of nodes has places
+    TooManyNodes = 13,
+}
+
+impl ReadingFault {
+    // The number of the refusal.
+    pub fn number(self) -> u8
+        ensures { result ≡ reading_number self }
+    {
+        self as u8
+    }
+}
+
+impl fmt::Display for ReadingFault {
+    ghost output = { λ f. Some (reading_text f) };
+
+    fn fmt<W: fmt::Write>(&self, f: &mut fmt::Formatter<W>) -> fmt::Result {
+        let number = self.number();
+        match self {
+            ReadingFault::TooManyNodes => {
+                write!(f, "more nodes than the table takes (refusal {number})")
+            }
+        }
+    }
+}
+
+impl Error for ReadingFault {}
+
+// Why a part of a trace is refused.
+#[derive(Clone, Copy, Debug, PartialEq, Eq)]
+pub enum PartFault {
+    // the node ends past the trace
+    PastTheTrace = 14,
+}
+
+impl PartFault {
+    // The number of the refusal.
+    pub fn number(self) -> u8
+        ensures { result ≡ part_number self }
+    {
+        self as u8
+    }
+}
+
+impl fmt::Display for PartFault {
+    ghost output = { λ f. Some (part_text f) };
+
+    fn fmt<W: fmt::Write>(&self, f: &mut fmt::Formatter<W>) -> fmt::Result {
+        let number = self.number();
+        match self {
+            PartFault::PastTheTrace => {
+                write!(f, "a node that ends past the trace (refusal {number})")
+            }
+        }
+    }
+}
+
+impl Error for PartFault {}

@@ -2,14 +2,18 @@
 #![tactic(auto)]
 
 mod active;
+mod blank_walk;
 mod blanks;
 mod cells;
 pub mod chart;
 mod column;
 mod columns;
 pub mod fault;
+pub mod node;
+mod node_table;
 mod nullable;
 mod pairs;
+pub mod part;
 mod strict;
 pub mod totals;
 mod weighed;
