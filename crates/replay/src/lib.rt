@@ -1,0 +1,7 @@
+//! The whole promise on one fresh call: the calls of a book, its closing, a chart cut from it and the chart's calls, each with its answer, and then
+//! the total or the reading.
+#![tactic(auto)]
+
+pub mod answer;
+pub mod book_run;
+pub mod call;
