@@ -14,3 +14,12 @@ pub enum BookCall<'c> {
     // the last rule is struck
     Strike,
 }
+
+// A call of a chart.
+#[derive(Clone, Copy)]
+pub enum ChartCall<E> {
+    // one event more
+    Feed(E),
+    // so many events are taken away
+    Withdraw(usize),
+}
