@@ -1,5 +1,5 @@
 -- Which pattern fits which event.
-use Rattle.std.specs.Prelude.{◌≡◌, ℕ, zero, suc, ◌<◌, ◌≤◌, Bool, T, false, ◌&&◌, List, [], ◌∷◌, length, ◌==◌, nat_le, slice_index_or}
+use Rattle.std.specs.Prelude.{◌≡◌, ℕ, zero, suc, ◌<◌, ◌≤◌, ◌↔◌, Bool, T, true, false, ◌&&◌, List, [], ◌∷◌, length, ◌==◌, nat_le, slice_index_or}
 use Rattle.book.specs.declared.kinds.CardEvent.{CardEvent}
 use Rattle.book.specs.declared.kinds.CardPattern.{CardPattern}
 
@@ -15,10 +15,6 @@ card_test p e = p.kind == e.kind && nat_le p.lowest e.argument && nat_le e.argum
 abbrev pub Tests : {P E : Type 0} → (P → E → Type 0) → (P → E → Bool) → Type 0
 Tests {P} {E} fits test = (p : P) (e : E) → (T (test p e) → fits p e) × (fits p e → T (test p e))
 
--- for every test of a relation
-abbrev pub ForTests : {P E : Type 0} → (P → E → Type 0) → ((P → E → Bool) → Type 0) → Type 0
-ForTests {P} {E} fits X = (test : P → E → Bool) → Tests fits test → X test
-
 -- whether pattern t of a table fits the event, by the test of one pattern; past the table none does
 abbrev pub table_fits : {P E : Type 0} → (P → E → Bool) → List P → E → ℕ → Bool
 table_fits test [] e t = false
@@ -29,10 +25,11 @@ table_fits test (p ∷ ps) e (suc t) = table_fits test ps e t
 abbrev pub FitsAt : {P E : Type 0} → (P → E → Type 0) → List P → ℕ → E → Type 0
 FitsAt fits patterns t e = (t < length patterns) × ((d : _) → fits (slice_index_or patterns t d) e)
 
--- the answer whether a table has a pattern t that fits an event
-pub record IsFitAnswer {P E : Type 0} (fits : P → E → Type 0) (patterns : List P) (t : ℕ) (e : E) (r : Bool) : Type 0 where
-  -- it is yes
-  pub only : T r → FitsAt fits patterns t e
-  pub always : FitsAt fits patterns t e → T r
-  -- and it is what every test of the relation gives
-  pub is : ForTests fits (λ test. r ≡ table_fits test patterns e t)
+-- a test of the numbers of patterns says yes exactly where the table has a pattern of that number, and it fits the event
+abbrev pub TestsTable : {P E : Type 0} → (P → E → Type 0) → List P → (E → ℕ → Bool) → Type 0
+TestsTable {P} {E} fits patterns test = (e : E) (t : ℕ) → (test e t ≡ true) ↔ FitsAt fits patterns t e
+
+-- the answer whether a table has a pattern t that fits an event: it is yes exactly then, and it is that of the test of one pattern
+pub record IsFitAnswer {P E : Type 0} (fits : P → E → Type 0) (test : P → E → Bool) (patterns : List P) (t : ℕ) (e : E) (r : Bool) : Type 0 where
+  pub means : (r ≡ true) ↔ FitsAt fits patterns t e
+  pub is : r ≡ table_fits test patterns e t

@@ -1,5 +1,6 @@
 pub mod Faults
 pub mod Fits
+pub mod Tested
 pub mod Tables
 pub mod Rules
 pub mod Books

@@ -1,6 +1,7 @@
 // Alphabets: a kind of event, a kind of pattern, and which pattern fits which event.
-ghost use Rattle.std.specs.Prelude.{◌≡◌, ℕ, T, nat_eq};
+ghost use Rattle.std.specs.Prelude.{◌≡◌, Bool, nat_eq};
 ghost use Rattle.book.specs.Fits.{CardFits, card_test, Tests};
+ghost use Rattle.book.specs.Tested.{bytes_tested, cards_tested};
 
 use crate::kinds::{CardEvent, CardPattern};
 
@@ -12,10 +13,15 @@ pub trait Alphabet {
     // the pattern fits the event
     ghost fits: { Self.Pattern → Self.Event → Type 0 };
 
-    // Whether the pattern fits the event. Two clauses, each of which an alphabet shows by itself.
+    // the same as a test, as the contracts name it
+    ghost test: { Self.Pattern → Self.Event → Bool };
+
+    // Whether the pattern fits the event.
     fn fit(pattern: Self::Pattern, event: Self::Event) -> bool
-        ensures only { T result → fits pattern event }
-        ensures always { fits pattern event → T result };
+        ensures { result ≡ test pattern event };
+
+    // the test says yes exactly of what fits
+    ghost tested: { Tests fits test };
 }
 
 // Bytes: a pattern is one byte and fits its equal.
@@ -28,11 +34,11 @@ impl Alphabet for Bytes {
 
     ghost fits = { λ p e. p ≡ e };
 
-    fn fit(pattern: u8, event: u8) -> bool
-        ensures only { T result → pattern ≡ event }
-        ensures always { pattern ≡ event → T result }
-        ensures tested { Tests (λ (p e : ℕ). p ≡ e) nat_eq }
-    {
+    ghost test = { nat_eq };
+
+    ghost tested = { bytes_tested };
+
+    fn fit(pattern: u8, event: u8) -> bool {
         pattern == event
     }
 }
@@ -47,11 +53,11 @@ impl Alphabet for Cards {
 
     ghost fits = { CardFits };
 
-    fn fit(pattern: CardPattern, event: CardEvent) -> bool
-        ensures only { T result → CardFits pattern event }
-        ensures always { CardFits pattern event → T result }
-        ensures tested { Tests CardFits card_test }
-    {
+    ghost test = { card_test };
+
+    ghost tested = { cards_tested };
+
+    fn fit(pattern: CardPattern, event: CardEvent) -> bool {
         pattern.kind == event.kind && (pattern.lowest..=pattern.highest).contains(&event.argument)
     }
 }

@@ -1,11 +1,11 @@
 // The calls of open and closed books.
 ghost use Rattle.std.specs.Prelude.{◌≡◌, ◌≤◌, T, [], length};
 ghost use Rattle.conversion.specs.Rows.{production_of, written};
-ghost use Rattle.book.specs.Books.{open_held, closed_held, closed_book, closed_strict, StrictRulesAre, At};
+ghost use Rattle.book.specs.Books.{open_held, closed_held, closed_book, closed_strict, closed_fits, StrictRulesAre, At};
 ghost use Rattle.grammar.specs.Binarise.{binarised};
 ghost use Rattle.grammar.specs.Strict.{strict_rules};
 ghost use Rattle.conversion.specs.Views.{strict_rule_of};
-ghost use Rattle.book.specs.Fits.{IsFitAnswer};
+ghost use Rattle.book.specs.Fits.{TestsTable, IsFitAnswer};
 ghost use Rattle.book.specs.Loads.{Loaded, load, load_is, LoadMeans};
 ghost use Rattle.book.specs.Offers.{Offered};
 ghost use Rattle.book.specs.Rules.{held};
@@ -135,9 +135,10 @@ impl<'p, A: Alphabet> ClosedBook<'p, A> {
         self.converted.rules()
     }
 
-    // Whether there is a pattern of that number and it fits the event.
+    // Whether there is a pattern of that number and it fits the event. The test of the book says so of every number and event.
     pub fn fits(&self, number: u8, event: A::Event) -> bool
-        ensures { IsFitAnswer A.Alphabet.fits self.now.table.patterns.now number event result }
+        ensures answer { IsFitAnswer A.Alphabet.fits A.Alphabet.test self.now.table.patterns.now number event result }
+        ensures tested { TestsTable A.Alphabet.fits self.now.table.patterns.now (closed_fits A.Alphabet.test self.now) }
     {
         self.table.fits(number, event)
     }

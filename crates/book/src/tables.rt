@@ -31,7 +31,7 @@ impl<'p, A: Alphabet> PatternTable<'p, A> {
 
     // Whether the table has a pattern of that number and it fits the event.
     pub fn fits(&self, number: u8, event: A::Event) -> bool
-        ensures { IsFitAnswer A.Alphabet.fits self.now.patterns.now number event result }
+        ensures { IsFitAnswer A.Alphabet.fits A.Alphabet.test self.now.patterns.now number event result }
     {
         self.patterns
             .get(number as usize)

@@ -1,12 +1,12 @@
 -- The totals of the three weighings.
 use Rattle.std.proofs.Common.{◌≡◌, ℕ, Bool, List, sym, refl, ap, ◌∙◌, arith}
 use Rattle.grammar.specs.Productions.{Book, Sound}
-use Rattle.grammar.specs.Weighings.{counts, costs, Keeps}
+use Rattle.grammar.specs.Weighings.{yes_no, counts, costs, Keeps}
 use Rattle.grammar.specs.Weights.{total_of}
 use Rattle.grammar.proofs.Totals.{sums_plain, none_exact, least_exact, carries}
 use Rattle.grammar.proofs.Chart.{yes_chart, symbol_sets}
 use Rattle.weighing.specs.declared.capped.Capped.{Capped}
-use Rattle.weighing.specs.Values.{yes_no_ops, counts as capped_counts, least_costs}
+use Rattle.weighing.specs.Values.{counts as capped_counts, least_costs}
 use Rattle.weighing.specs.Laws.{counts_laws}
 use Rattle.chart.specs.Totals.{Explained, CountsReadings, IsLeastCost}
 
@@ -21,7 +21,7 @@ costs_kept : Keeps least_costs (costs C) (λ (c : Capped). c.n)
 costs_kept = record { zero_to = refl; one_to = refl; plus_to = λ a b. refl; times_to = λ a b. refl; weight_to = λ c h. omega arith }
 
 module _ {E : Type 0} (W : Book) (sound : Sound W) (fits : E → ℕ → Bool) (es : List E) where
-  pub explained_by : (r : Bool) → r ≡ total_of W yes_no_ops fits es → Explained W fits es r
+  pub explained_by : (r : Bool) → r ≡ total_of W yes_no fits es → Explained W fits es r
   explained_by r e =
       let exact = none_exact E C (omega arith) W sound fits es in
       record {

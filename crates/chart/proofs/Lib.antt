@@ -15,3 +15,4 @@ pub mod Filling
 pub mod Totalling
 pub mod ByKind
 pub mod SameColumns
+pub mod Running

@@ -5,5 +5,6 @@ pub mod Charts
 pub mod Pairs
 pub mod Events
 pub mod Feeds
+pub mod Runs
 pub mod Totals
 pub mod Columns

@@ -3,7 +3,6 @@ ghost use Rattle.std.specs.Prelude.{◌≡◌, ℕ, ◌+◌, ◌-◌, ◌<◌, �
 ghost use Rattle.arrayvec.specs.ArrayVec.{array_vec_len};
 ghost use Rattle.grammar.specs.Cells.{terminal_fits};
 ghost use Rattle.conversion.specs.Views.{right_side_of};
-ghost use Rattle.book.specs.Fits.{ForTests};
 ghost use Rattle.book.specs.Books.{closed_book, closed_fits};
 ghost use Rattle.chart.specs.Table.{cell_place, cell_at, SameOutside, Added};
 ghost use Rattle.chart.specs.Charts.{over_event, over_parts};
@@ -21,7 +20,7 @@ use weighing::weighing::Weighing;
 impl<'t, 'p, A: Alphabet, W: Weighing> Column<'t, 'p, A, W> {
     // The weight of a strict rule where it is a pattern rule that fits the event, else zero.
     fn event_weight(&self, weighed: &WeighedRule<W::Value>, event: A::Event) -> W::Value
-        ensures { ForTests A.Alphabet.fits (λ test. result ≡ (if terminal_fits (closed_fits test self.now.book.now) event (right_side_of weighed.now.rule.right) then weighed.now.weight else W.Weighing.ops.zero)) }
+        ensures { result ≡ (if terminal_fits (closed_fits A.Alphabet.test self.now.book.now) event (right_side_of weighed.now.rule.right) then weighed.now.weight else W.Weighing.ops.zero) }
     {
         match weighed.rule.right {
             Right::Terminal(t) if self.book.fits(t, event) => weighed.weight,
@@ -32,7 +31,7 @@ impl<'t, 'p, A: Alphabet, W: Weighing> Column<'t, 'p, A, W> {
     // Adds to the last cell, over the event alone, the strict pattern rules whose pattern fits it.
     pub(crate) fn one_event(&mut self, event: A::Event)
         ensures outside { SameOutside W.Weighing.ops.zero (cell_place self.old.symbols self.old.end (self.old.end - 1)) (cell_place self.old.symbols self.old.end (self.old.end - 1) + self.old.symbols) self.old.weights.now self.new.weights.now }
-        ensures added { ForTests A.Alphabet.fits (λ test. Added W.Weighing.ops self.old.symbols (cell_place self.old.symbols self.old.end (self.old.end - 1)) (over_event (closed_book self.old.book.now) W.Weighing.ops (closed_fits test self.old.book.now) event) self.old.weights.now self.new.weights.now) }
+        ensures added { Added W.Weighing.ops self.old.symbols (cell_place self.old.symbols self.old.end (self.old.end - 1)) (over_event (closed_book self.old.book.now) W.Weighing.ops (closed_fits A.Alphabet.test self.old.book.now) event) self.old.weights.now self.new.weights.now }
         ensures same { SameColumn self.old self.new }
     {
         let end = self.end;

@@ -2,7 +2,6 @@
 ghost use Rattle.std.specs.Prelude.{◌≡◌, ℕ, ◌+◌, ◌<◌, ◌≤◌, Bool, List, [], ◌∷◌, ◌++◌, length, slice_index_or};
 ghost use Rattle.grammar.specs.Binarise.{binarised};
 ghost use Rattle.grammar.specs.Weights.{total_of};
-ghost use Rattle.book.specs.Fits.{ForTests};
 ghost use Rattle.book.specs.Books.{closed_book, closed_fits};
 ghost use Rattle.chart.specs.Table.{column_place, SameOutside};
 ghost use Rattle.chart.specs.Weights.{rules_book, Weighs};
@@ -12,7 +11,7 @@ ghost use Rattle.chart.specs.Totals.{TotalIs};
 use crate::blanks::Blanks;
 use crate::cells::{column_place, peek};
 use crate::column::Column;
-use crate::fault::FeedFault;
+use crate::fault::{FeedFault, WithdrawFault};
 use crate::nullable::nullable_weights;
 use crate::weighed::WeighedRules;
 use book::alphabet::Alphabet;
@@ -62,7 +61,7 @@ fn fill<A: Alphabet, W: Weighing>(
     requires events { (0 < end) × (end ≤ 256) }
     requires room { column_place (binarised (closed_book book.now)).symbols (end + 1) ≤ length weights.old }
     ensures outside { SameOutside W.Weighing.ops.zero (column_place (binarised (closed_book book.now)).symbols end) (column_place (binarised (closed_book book.now)).symbols (end + 1)) weights.old weights.new }
-    ensures chart { ForTests A.Alphabet.fits (λ test. (es : List A.Event) → length es + 1 ≡ end → HoldsChart (closed_book book.now) W.Weighing.ops (closed_fits test book.now) es weights.old → HoldsChart (closed_book book.now) W.Weighing.ops (closed_fits test book.now) (es ++ (event ∷ [])) weights.new) }
+    ensures chart { (es : List A.Event) → length es + 1 ≡ end → HoldsChart (closed_book book.now) W.Weighing.ops (closed_fits A.Alphabet.test book.now) es weights.old → HoldsChart (closed_book book.now) W.Weighing.ops (closed_fits A.Alphabet.test book.now) (es ++ (event ∷ [])) weights.new }
 {
     let rules = weigh::<W>(book.converted());
     let mut column = Column::<A, W> {
@@ -76,13 +75,15 @@ fn fill<A: Alphabet, W: Weighing>(
 }
 
 impl<'b, 'p, 't, A: Alphabet, W: Weighing> Chart<'b, 'p, 't, A, W> {
-    ghost use Rattle.chart.specs.Events.{Holds, chart_book, chart_fits};
-    ghost use Rattle.chart.specs.Feeds.{Fed, FedEvent};
+    ghost use Rattle.chart.specs.Events.{Holds, chart_book, chart_fits, FitsByRelation};
+    ghost use Rattle.chart.specs.Feeds.{FedEvent, Withdrawn};
+    ghost use Rattle.chart.specs.Runs.{a_feed, a_withdraw, HoldsAfter, RunsOn};
 
     // A chart of no events over the table, which it leaves as it is.
     pub fn cut(book: &'b ClosedBook<'p, A>, weights: &'t mut [W::Value]) -> Chart<'b, 'p, 't, A, W>
         ensures none { result.events ≡ 0 }
-        ensures holds { (test : A.Pattern → A.Event → Bool) → Holds W.Weighing.ops test result [] }
+        ensures holds { Holds W.Weighing.ops A.Alphabet.test result [] }
+        ensures runs { HoldsAfter W.Weighing.ops A.Alphabet.test result [] }
         ensures book { result.book.now ≡ book.now }
         ensures table { result.weights.now ≡ weights.old }
         ensures same { result.weights.ghost_name ≡ weights.entry.ghost_name }
@@ -103,8 +104,9 @@ impl<'b, 'p, 't, A: Alphabet, W: Weighing> Chart<'b, 'p, 't, A, W> {
 
     // One event more: how many are held then, or the refusal.
     pub fn feed(&mut self, event: A::Event) -> Result<usize, FeedFault>
-        ensures says { Fed W.Weighing.ops.zero self.old.book.now.converted.form.binarised.symbols self.old.weights.now self.old.events self.new.weights.now self.new.events result }
-        ensures chart { ForTests A.Alphabet.fits (λ test. FedEvent W.Weighing.ops test event self.old self.new result) }
+        ensures fed { FedEvent W.Weighing.ops A.Alphabet.test event self.old self.new result }
+        ensures runs { RunsOn W.Weighing.ops A.Alphabet.test (a_feed event) self.old self.new }
+        ensures long { length self.new.weights.now ≡ length self.old.weights.now }
         ensures book { self.new.book ≡ self.old.book }
         ensures same { self.new.weights.ghost_name ≡ self.old.weights.ghost_name }
     {
@@ -118,10 +120,26 @@ impl<'b, 'p, 't, A: Alphabet, W: Weighing> Chart<'b, 'p, 't, A, W> {
         Ok(n + 1)
     }
 
+    // Takes the last k events away: how many are held then, or the refusal. The table is not written.
+    pub(crate) fn withdraw(&mut self, k: usize) -> Result<usize, WithdrawFault>
+        ensures withdrawn { Withdrawn W.Weighing.ops A.Alphabet.test k self.old self.new result }
+        ensures runs { RunsOn W.Weighing.ops A.Alphabet.test (a_withdraw k) self.old self.new }
+        ensures table { self.new.weights.now ≡ self.old.weights.now }
+        ensures book { self.new.book ≡ self.old.book }
+        ensures same { self.new.weights.ghost_name ≡ self.old.weights.ghost_name }
+    {
+        if k > self.events {
+            return Err(WithdrawFault::TooMany);
+        }
+        self.events -= k;
+        Ok(self.events)
+    }
+
     // Head 0's weight over all events held.
     pub fn total(&self) -> W::Value
         ensures stands { 0 < self.now.events → result ≡ slice_index_or self.now.weights.now (column_place self.now.book.now.converted.form.binarised.symbols self.now.events) W.Weighing.ops.zero }
-        ensures means { ForTests A.Alphabet.fits (λ test. (es : List A.Event) → Holds W.Weighing.ops test self.now es → TotalIs (chart_book self.now) W.Weighing.ops (chart_fits test self.now) es result) }
+        ensures means { (es : List A.Event) → Holds W.Weighing.ops A.Alphabet.test self.now es → TotalIs (chart_book self.now) W.Weighing.ops (chart_fits A.Alphabet.test self.now) es result }
+        ensures fits { FitsByRelation A.Alphabet.fits A.Alphabet.test self.now }
     {
         if self.events == 0 {
             return empty_total::<A, W>(self.book);

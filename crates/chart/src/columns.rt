@@ -1,6 +1,5 @@
 // How the column of an event is worked out.
 ghost use Rattle.std.specs.Prelude.{◌≡◌, ℕ, ◌+◌, ◌-◌, ◌<◌, ◌≤◌, List, [], ◌∷◌, ◌++◌, length};
-ghost use Rattle.book.specs.Fits.{ForTests};
 ghost use Rattle.book.specs.Books.{closed_book, closed_fits};
 ghost use Rattle.chart.specs.Table.{column_place, cell_place, cell_at, SameOutside, Cleared, Added, AddedStarts};
 ghost use Rattle.chart.specs.Charts.{over_event, over_parts, HoldsChart};
@@ -94,7 +93,7 @@ impl<'t, 'p, A: Alphabet, W: Weighing> Column<'t, 'p, A, W> {
     // Works the column out, from its last start to the first.
     pub(crate) fn fill(&mut self, event: A::Event)
         ensures outside { SameOutside W.Weighing.ops.zero (column_place self.old.symbols self.old.end) (column_place self.old.symbols (self.old.end + 1)) self.old.weights.now self.new.weights.now }
-        ensures chart { ForTests A.Alphabet.fits (λ test. (es : List A.Event) → length es + 1 ≡ self.old.end → HoldsChart (closed_book self.old.book.now) W.Weighing.ops (closed_fits test self.old.book.now) es self.old.weights.now → HoldsChart (closed_book self.old.book.now) W.Weighing.ops (closed_fits test self.old.book.now) (es ++ (event ∷ [])) self.new.weights.now) }
+        ensures chart { (es : List A.Event) → length es + 1 ≡ self.old.end → HoldsChart (closed_book self.old.book.now) W.Weighing.ops (closed_fits A.Alphabet.test self.old.book.now) es self.old.weights.now → HoldsChart (closed_book self.old.book.now) W.Weighing.ops (closed_fits A.Alphabet.test self.old.book.now) (es ++ (event ∷ [])) self.new.weights.now }
         ensures same { SameColumn self.old self.new }
     {
         self.clear();

@@ -6,8 +6,9 @@ use Rattle.std.proofs.Math.Nat.{min_comm}
 use Rattle.std.proofs.Math.Bridge.{le_prop}
 use mathlib.Core.HLevel.{is_prop→PathP}
 use Rattle.grammar.specs.Semiring.{Semiring}
+use Rattle.grammar.specs.Weighings.{yes_no}
 use Rattle.grammar.proofs.HeldNumbers.{sum_assoc, sum_comm, sum_none, sum_all, held_factor, held_factor_right, product_one, product_zero, product_sum, smaller_assoc, smaller_none, sum_smaller}
-use Rattle.weighing.specs.Values.{yes_no_ops, counts, least_costs}
+use Rattle.weighing.specs.Values.{counts, least_costs}
 use Rattle.weighing.specs.declared.capped.Capped.{Capped}
 
 -- two capped numbers are equal if their numbers are
@@ -51,8 +52,8 @@ least_costs_laws = record {
 }
 
 -- yes and no: or and and
-pub yes_no_ops_laws : Semiring yes_no_ops
-yes_no_ops_laws = record {
+pub yes_no_laws : Semiring yes_no
+yes_no_laws = record {
   plus_assoc = or_assoc;
   plus_comm = or_comm;
   plus_zero = λ x. refl;

@@ -1,5 +1,5 @@
--- The values and operations of the three weighings.
-use Rattle.std.specs.Prelude.{ℕ, ◌+◌, ◌*◌, min, Bool, true, false, ◌&&◌, ◌||◌}
+-- The values and operations of the two weighings by numbers; yes and no are those of the grammar's weighings.
+use Rattle.std.specs.Prelude.{ℕ, ◌+◌, ◌*◌, min}
 use Rattle.std.proofs.Math.Nat.{le_trans, min-le_left, min-le_right}
 use Rattle.grammar.specs.Semiring.{Ops}
 use Rattle.weighing.specs.declared.capped.Capped.{Capped}
@@ -11,10 +11,6 @@ held m = record { n = min m 4294967295; top = min-le_right m 4294967295 }
 -- the smaller of two numbers
 abbrev pub smaller : Capped → Capped → Capped
 smaller x y = record { n = min x.n y.n; top = le_trans (min-le_left x.n y.n) x.top }
-
--- whether there is a derivation: alternatives by or, parts by and; each cost weighs yes
-abbrev pub yes_no_ops : Ops Bool
-yes_no_ops = record { zero = false; one = true; plus = ◌||◌; times = ◌&&◌; weight = λ cost. true }
 
 -- how many derivations there are: sums and products, each held; each cost weighs 1
 abbrev pub counts : Ops Capped

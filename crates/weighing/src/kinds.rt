@@ -1,7 +1,8 @@
 // Three weighings: whether there is a derivation, how many there are, and what the cheapest costs.
 ghost use Rattle.std.specs.Prelude.{◌≡◌, ◌+◌};
-ghost use Rattle.weighing.specs.Values.{held, yes_no_ops, counts, least_costs};
-ghost use Rattle.weighing.specs.Laws.{yes_no_ops_laws, counts_laws, least_costs_laws};
+ghost use Rattle.grammar.specs.Weighings.{yes_no};
+ghost use Rattle.weighing.specs.Values.{held, counts, least_costs};
+ghost use Rattle.weighing.specs.Laws.{yes_no_laws, counts_laws, least_costs_laws};
 ghost use Rattle.std.proofs.Common.{lit≤};
 
 use crate::bank::Bank128;
@@ -16,9 +17,9 @@ impl Weighing for YesNo {
 
     type Values = Bank128<bool>;
 
-    ghost ops = { yes_no_ops };
+    ghost ops = { yes_no };
 
-    ghost semiring = { yes_no_ops_laws };
+    ghost semiring = { yes_no_laws };
 
     ghost small = { lit≤ tt };
 

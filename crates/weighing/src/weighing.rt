@@ -1,5 +1,5 @@
 // What a weighing is: values, how alternatives and parts combine, and what a rule's cost weighs.
-ghost use Rattle.std.specs.Prelude.{◌≡◌, ◌≤◌, T};
+ghost use Rattle.std.specs.Prelude.{◌≡◌, ◌≤◌, ◌↔◌, true};
 ghost use prog.Memory.{size};
 ghost use denote.Param.{layout};
 ghost use Rattle.grammar.specs.Semiring.{Ops, Semiring};
@@ -34,12 +34,9 @@ pub trait Weighing {
     fn weight(cost: u16) -> Self::Value
         ensures { result ≡ ops.weight cost };
 
-    // Whether a value is known to be the weight of no derivation, so that work on it can be left out. A weighing that cannot tell says no.
+    // Whether a value is the weight of no derivation, so that work on it can be left out.
     fn is_zero(v: Self::Value) -> bool
-        ensures only { T result → v ≡ ops.zero }
-    {
-        false
-    }
+        ensures { (result ≡ true) ↔ (v ≡ ops.zero) };
 
     ghost semiring: { Semiring ops };
 

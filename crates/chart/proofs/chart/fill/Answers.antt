@@ -13,7 +13,7 @@ as_slice-requires g c = rules_small (layout g.row.W-Value) g.met.W.Weighing.smal
 
 -- the table is what the column has left in it, since the column is still of that table
 pub returns-clause-chart : goal.returns-clause-chart
-returns-clause-chart g c test exact es n h =
+returns-clause-chart g c es n h =
     let b = c.args.book.now in
     let table = sym c.fill.ensures.same.table in
-    subst (HoldsChart (closed_book b) g.W.Weighing.ops (closed_fits test b) (es ++ (c.args.event ∷ []))) (search (rules, table)) (c.fill.ensures.chart test exact es n h)
+    subst (HoldsChart (closed_book b) g.W.Weighing.ops (closed_fits g.A.Alphabet.test b) (es ++ (c.args.event ∷ []))) (search (rules, table)) (c.fill.ensures.chart es n h)

@@ -4,8 +4,8 @@ use Rattle.chart.proofs.OfBook.{book_sound}
 use Rattle.chart.proofs.ByKind.{least_by}
 use Rattle.chart.proofs.totals.least_cost.Goals as goal
 
-pub returns : goal.returns
-returns g c test exact es h =
+pub returns-clause-means : goal.returns-clause-means
+returns-clause-means g c es h =
     let k = c.args.chart.now in
-    let total = (c.total-cost.ensures.means test exact es h).is_total in
-    least_by (chart_book k) (book_sound k.book.now) (chart_fits test k) es _ c.total-cost.result (omega (arith, c.value.ensures)) total
+    let total = (c.total-cost.ensures.means es h).is_total in
+    least_by (chart_book k) (book_sound k.book.now) (chart_fits g.A.Alphabet.test k) es _ c.total-cost.result (omega (arith, c.value.ensures)) total

@@ -10,4 +10,4 @@ returns g c =
     let t = c.args.number in
     let there : IfSome c.get.result (λ p. p.now ≡ get_or ps t p.now) = search rules in
     let where_it_is : MatchOption c.get.result (length ps ≤ t) (λ p. (t < length ps) × HoldsAt (λ q. p.now ≡ q) ps t) = search rules in
-    answer_is g.A.Alphabet.fits ps t c.args.event _ c.get.result there where_it_is (search (rules, tests))
+    answer_is g.A.Alphabet.fits g.A.Alphabet.test g.met.A.Alphabet.tested ps t c.args.event _ c.get.result there where_it_is (search (rules, tests))

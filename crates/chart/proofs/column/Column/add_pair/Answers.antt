@@ -1,4 +1,4 @@
-use Rattle.std.proofs.Common.{sym, ap, ◌∙◌, arith}
+use Rattle.std.proofs.Common.{sym, refl, ap, ◌∙◌, arith}
 use Rattle.conversion.specs.Views.{right_side_of}
 use Rattle.chart.specs.Table.{cell_at}
 use Rattle.chart.proofs.PairSums.{pair_kept, pair_nothing, pair_other, pair_pushed}
@@ -19,7 +19,7 @@ returns-else-not-is_zero g c =
     let w = c.args.weighed.now in
     let right = cell_at M c.args.self.now.weights.now c.args.right in
     pair_kept M L w.rule w.weight right c.args.pairs.now.items
-    (λ left. pair_nothing M L w.weight left right _ c.in-Binary.y c.in-Binary.z (ap right_side_of c.in-Binary.is) (sym c.peek-part.ensures ∙ c.if-not-is_zero.ensures.only tt))
+    (λ left. pair_nothing M L w.weight left right _ c.in-Binary.y c.in-Binary.z (ap right_side_of c.in-Binary.is) (sym c.peek-part.ensures ∙ c.if-not-is_zero.ensures.0 refl))
 
 pub returns-in_default : goal.returns-in_default
 returns-in_default g c =

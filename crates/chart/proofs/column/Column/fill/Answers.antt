@@ -27,7 +27,7 @@ loop-middle-init g c =
     let same = same_after k c.clear.new.self first c.clear.ensures.same c.one_event.ensures.same in
     record {
       outside = same_all g.W.Weighing.ops.zero (column_place k.symbols k.end) (column_place k.symbols (k.end + 1)) first.weights.now;
-      middles = λ test exact. middles_none (closed_book k.book.now) (book_sound k.book.now) g.W.Weighing.ops g.met.W.Weighing.semiring (closed_fits test k.book.now)
+      middles = middles_none (closed_book k.book.now) (book_sound k.book.now) g.W.Weighing.ops g.met.W.Weighing.semiring (closed_fits g.A.Alphabet.test k.book.now)
           k.symbols k.end first.end first.weights.now same.end;
       same = same;
     }
@@ -48,9 +48,9 @@ loop-middle-preserved g c =
     record {
       outside = outside_more M.zero k.symbols k.end (m - 1) first.weights.now mid.weights.now is.weights.now
           (omega (arith, c.loop-middle-test.true, c.loop-middle.auto.middle, begun.end)) c.loop-middle.invariant.outside added.0;
-      middles = λ test exact. middles_more (closed_book k.book.now) (book_sound k.book.now) M g.met.W.Weighing.semiring (closed_fits test k.book.now) k.symbols k.end
+      middles = middles_more (closed_book k.book.now) (book_sound k.book.now) M g.met.W.Weighing.semiring (closed_fits g.A.Alphabet.test k.book.now) k.symbols k.end
           (m - 1) m first.weights.now mid.weights.now is.weights.now k.counts (omega (arith, c.loop-middle-test.true)) (omega (arith, c.loop-middle-test.true, c.loop-middle.auto.middle, begun.end))
-          (omega (arith, c.loop-middle-test.true)) added (c.loop-middle.invariant.middles test exact);
+          (omega (arith, c.loop-middle-test.true)) added c.loop-middle.invariant.middles;
       same = same_after k mid is same c.add_middle.ensures.same;
     }
 
@@ -66,11 +66,11 @@ returns g c =
     (λ b s e. SameOutside M.zero (cell_place s e (e - 1)) (cell_place s e (e - 1) + s) blank.weights.now first.weights.now) c.one_event.ensures.outside in
     record {
       outside = outside_all M.zero k.symbols k.end k.weights.now blank.weights.now first.weights.now is.weights.now k.some c.clear.ensures.cleared.0 one c.loop-middle.invariant.outside;
-      chart = λ test exact. middles_all W (book_sound k.book.now) M g.met.W.Weighing.semiring (closed_fits test k.book.now) k.symbols k.end
+      chart = middles_all W (book_sound k.book.now) M g.met.W.Weighing.semiring (closed_fits g.A.Alphabet.test k.book.now) k.symbols k.end
           c.loop-middle.middle c.args.event k.weights.now blank.weights.now first.weights.now is.weights.now
           k.counts k.some (omega (arith, c.loop-middle-test.false)) (omega (arith, k.long, c.loop-middle.invariant.same.long)) c.clear.ensures.cleared
           (as_before k blank c.clear.ensures.same
-          (λ b s e. Added M s (cell_place s e (e - 1)) (over_event (closed_book b) M (closed_fits test b) c.args.event) blank.weights.now first.weights.now) (c.one_event.ensures.added test exact))
-          (c.loop-middle.invariant.middles test exact);
+          (λ b s e. Added M s (cell_place s e (e - 1)) (over_event (closed_book b) M (closed_fits g.A.Alphabet.test b) c.args.event) blank.weights.now first.weights.now) c.one_event.ensures.added)
+          c.loop-middle.invariant.middles;
       same = c.loop-middle.invariant.same;
     }

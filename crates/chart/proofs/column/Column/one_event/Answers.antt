@@ -17,7 +17,7 @@ loop-weighed-init g c =
     let cell = c.cell-cell.result in
     record {
       outside = same_all g.W.Weighing.ops.zero cell (cell + k.symbols) k.weights.now;
-      events = λ test exact. events_none (closed_book k.book.now) g.W.Weighing.ops g.met.W.Weighing.semiring (closed_fits test k.book.now) c.args.event k.symbols cell k.weights.now;
+      events = events_none (closed_book k.book.now) g.W.Weighing.ops g.met.W.Weighing.semiring (closed_fits g.A.Alphabet.test k.book.now) c.args.event k.symbols cell k.weights.now;
       same = same_column k;
     }
 
@@ -45,11 +45,11 @@ loop-weighed-preserved g c =
     let same = c.loop-weighed.invariant.same in
     record {
       outside = same_then M.zero cell (cell + k.symbols) k.weights.now mid.weights.now is c.loop-weighed.invariant.outside c.add.ensures.0;
-      events = λ test exact. events_more W M g.met.W.Weighing.semiring (closed_fits test k.book.now) c.args.event k.symbols cell
+      events = events_more W M g.met.W.Weighing.semiring (closed_fits g.A.Alphabet.test k.book.now) c.args.event k.symbols cell
           k.rules.now c.loop-weighed.weighed-index w v k.weights.now mid.weights.now is
           (weighs_of g.row.W-Value.coded M W k.rules.now k.weighed) c.loop-weighed-test.true c.weighed-item.is
-          (subst (λ b. v ≡ cond (terminal_fits (closed_fits test b.now) c.args.event (right_side_of w.rule.right)) w.weight M.zero) same.book (c.event_weight-weight.ensures test exact))
-          c.add.ensures (c.loop-weighed.invariant.events test exact);
+          (subst (λ b. v ≡ cond (terminal_fits (closed_fits g.A.Alphabet.test b.now) c.args.event (right_side_of w.rule.right)) w.weight M.zero) same.book c.event_weight-weight.ensures)
+          c.add.ensures c.loop-weighed.invariant.events;
       same = record { book = same.book; rules = same.rules; symbols = same.symbols; end = same.end; long = c.add.auto.weights ∙ same.long; table = same.table };
     }
 
@@ -63,8 +63,8 @@ returns g c =
     let many = weighed_many W M k.rules.now (weighs_of g.row.W-Value.coded M W k.rules.now k.weighed) in
     record {
       outside = subst (λ a. SameOutside M.zero a (a + k.symbols) k.weights.now is.weights.now) c.cell-cell.ensures.is c.loop-weighed.invariant.outside;
-      added = λ test exact. subst (λ a. Added M k.symbols a (over_event W M (closed_fits test k.book.now) c.args.event) k.weights.now is.weights.now) c.cell-cell.ensures.is
-          (events_all W M g.met.W.Weighing.semiring (closed_fits test k.book.now) c.args.event k.symbols c.cell-cell.result
-          c.loop-weighed.weighed-index k.weights.now is.weights.now k.counts (omega (arith, c.loop-weighed-test.false, many)) (c.loop-weighed.invariant.events test exact));
+      added = subst (λ a. Added M k.symbols a (over_event W M (closed_fits g.A.Alphabet.test k.book.now) c.args.event) k.weights.now is.weights.now) c.cell-cell.ensures.is
+          (events_all W M g.met.W.Weighing.semiring (closed_fits g.A.Alphabet.test k.book.now) c.args.event k.symbols c.cell-cell.result
+          c.loop-weighed.weighed-index k.weights.now is.weights.now k.counts (omega (arith, c.loop-weighed-test.false, many)) c.loop-weighed.invariant.events);
       same = c.loop-weighed.invariant.same;
     }

@@ -1,5 +1,4 @@
 use Rattle.std.proofs.Common.{◌+◌}
-use Rattle.book.specs.Fits.{ForTests}
 use Rattle.book.specs.Books.{closed_book, closed_fits}
 use Rattle.chart.specs.Table.{SameOutside}
 use Rattle.chart.specs.Columns.{SameColumn}
@@ -11,7 +10,7 @@ invariant-loop-weighed g l =
     let was = l.initial.self in
     record {
       outside : SameOutside g.W.Weighing.ops.zero l.cell (l.cell + was.symbols) was.weights.now l.self.weights.now;
-      events : ForTests g.A.Alphabet.fits (λ test. Events (closed_book was.book.now) g.W.Weighing.ops g.met.W.Weighing.semiring (closed_fits test was.book.now) l.event was.symbols l.cell
-          l.weighed-index was.weights.now l.self.weights.now);
+      events : Events (closed_book was.book.now) g.W.Weighing.ops g.met.W.Weighing.semiring (closed_fits g.A.Alphabet.test was.book.now) l.event was.symbols l.cell
+          l.weighed-index was.weights.now l.self.weights.now;
       same : SameColumn was l.self;
     }
