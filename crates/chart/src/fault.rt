@@ -36,14 +36,14 @@ impl Error for FeedFault {}
 
 // Why a withdrawal is refused.
 #[derive(Clone, Copy, Debug, PartialEq, Eq)]
-pub(crate) enum WithdrawFault {
+pub enum WithdrawFault {
     // more events than are held
     TooMany = 12,
 }
 
 impl WithdrawFault {
     // The number of the refusal.
-    pub(crate) fn number(self) -> u8
+    pub fn number(self) -> u8
         ensures { result ≡ withdraw_number self }
     {
         self as u8
