@@ -1,2 +1,3 @@
 pub mod InTurn
 pub mod BookTurns
+pub mod ChartTurns

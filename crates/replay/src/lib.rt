@@ -3,5 +3,6 @@
 #![tactic(auto)]
 
 pub mod answer;
-pub mod book_run;
+mod book_run;
 pub mod call;
+mod chart_run;
