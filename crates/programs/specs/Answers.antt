@@ -1,6 +1,7 @@
 -- What is answered of a trace.
-use Rattle.std.specs.Prelude.{◌≡◌, ℕ, ◌+◌, ◌<◌, ◌≤◌, ◌⊎◌, Bool, List, ◌∷◌, ◌++◌, Ok, Err, Result, vec_len, cond, codes, decimal}
+use Rattle.std.specs.Prelude.{◌≡◌, ℕ, ◌+◌, ◌-◌, ◌<◌, ◌≤◌, ◌⊎◌, Bool, List, ◌∷◌, ◌++◌, length, take, Ok, Err, Result, vec_len, cond, codes, decimal}
 use Rattle.grammar.specs.Rooms.{column_place}
+use Rattle.grammar.specs.Semiring.{Ops}
 use Rattle.book.specs.declared.alphabet.Alphabet.{Ghosts}
 use Rattle.book.specs.declared.books.ClosedBook.{ClosedBook}
 use Rattle.book.specs.Books.{closed_book, closed_fits}
@@ -10,6 +11,7 @@ use Rattle.chart.specs.declared.chart.Chart.{Chart}
 use Rattle.chart.specs.declared.fault.FeedFault.{FeedFault}
 use Rattle.chart.specs.Faults.{feed_number}
 use Rattle.chart.specs.Feeds.{chart_refusal}
+use Rattle.chart.specs.Events.{chart_symbols, Holds}
 use Rattle.chart.specs.Totals.{Explained, CountsReadings, IsLeastCost}
 use Rattle.programs.specs.declared.totals.Tables.{Tables}
 use Rattle.programs.specs.declared.totals.Totals.{Totals}
@@ -21,14 +23,24 @@ pub record AreTotals {A E P : Type 0} {G : Ghosts A E P} (b : ClosedBook A E P G
   pub count : CountsReadings (closed_book b) (closed_fits test b) 4294967295 es t.count
   pub least : IsLeastCost (closed_book b) (closed_fits test b) 4294967295 es t.least
 
--- k events more were fed to a chart: it holds all of them then; or it holds fewer, and as it then stands it has no room for one more
-abbrev pub FedAll : {A K E P V U X : Type 0} {G : Ghosts A E P} {H : Weighings K V U} {B : Banks U V} → Chart A K E P V U G H B → Chart A K E P V U G H B → ℕ → Result X FeedFault → Type 0
-FedAll was is k (Ok x) = is.events ≡ was.events + k
-FedAll was is k (Err f) = (was.events ≤ is.events) × (is.events < was.events + k) × (chart_refusal is ≡ feed_number f)
+-- a table of m weights, S to a cell, has room for the chart of k events more than n
+abbrev pub RoomFor : ℕ → ℕ → ℕ → ℕ → Type 0
+RoomFor S m n k = (k ≡ 0) ⊎ ((n + k ≤ 256) × (column_place S (n + k + 1) ≤ m))
+
+-- a trace was fed to a chart: there was room for it, and whatever events the chart held it holds with the trace at the end; or there was no
+-- room, it holds the events of the trace before the one that was refused, and has no room for one more
+abbrev pub FedAll : {A K E P V U X : Type 0} {G : Ghosts A E P} {H : Weighings K V U} {B : Banks U V} → Ops V → (P → E → Bool) → List E → Chart A K E P V U G H B → Chart A K E P V U G H B → Result X FeedFault → Type 0
+FedAll M test trace was is (Ok x) = RoomFor (chart_symbols was) (length was.weights.now) was.events (length trace)
+    × (is.events ≡ was.events + length trace)
+    × ((es : List _) → Holds M test was es → Holds M test is (es ++ trace))
+FedAll M test trace was is (Err f) = (RoomFor (chart_symbols was) (length was.weights.now) was.events (length trace) → ⊥)
+    × ((was.events ≤ is.events) × (is.events < was.events + length trace))
+    × ((es : List _) → Holds M test was es → Holds M test is (es ++ take (is.events - was.events) trace))
+    × (chart_refusal is ≡ feed_number f)
 
 -- a table of m weights, S to a cell, has room for the chart of so many events, if there are any
 abbrev pub HasRoom : ℕ → ℕ → ℕ → Type 0
-HasRoom S m events = (events ≡ 0) ⊎ ((events ≤ 256) × (column_place S (events + 1) ≤ m))
+HasRoom S m events = RoomFor S m 0 events
 
 -- the tables of the three weighings have as many weights as before
 abbrev pub AsLong : Tables → Tables → Type 0

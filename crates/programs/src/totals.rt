@@ -1,10 +1,8 @@
 // The totals of a trace by the three weighings.
-ghost use Rattle.std.specs.Prelude.{◌≡◌, ◌+◌, ◌<◌, ◌≤◌, List, ◌++◌, length, Some, IfOk, IsOk, MatchOption, vec_len};
+ghost use Rattle.std.specs.Prelude.{◌≡◌, ◌+◌, ◌<◌, ◌≤◌, ◌↔◌, length, Some, IfOk, IsOk, MatchOption, vec_len};
 ghost use Rattle.grammar.specs.Binarise.{binarised};
 ghost use Rattle.book.specs.Books.{closed_book, closed_fits};
-ghost use Rattle.book.specs.Fits.{ForTests};
 ghost use Rattle.chart.specs.Table.{column_place};
-ghost use Rattle.chart.specs.Events.{Holds};
 ghost use Rattle.chart.specs.Totals.{Explained, CountsReadings, IsLeastCost};
 ghost use Rattle.programs.specs.Answers.{AreTotals, AsLong, FedAll, HasRoom, HaveRoom, verdict_word, totals_words};
 
@@ -66,63 +64,15 @@ pub fn feed_all<A: Alphabet, W: Weighing>(
     chart: &mut Chart<A, W>,
     trace: &[A::Event],
 ) -> Result<(), FeedFault>
-    ensures chart { ForTests A.Alphabet.fits (λ test. (es : List A.Event) → Holds W.Weighing.ops test chart.old es → IfOk result (λ _. Holds W.Weighing.ops test chart.new (es ++ trace.now))) }
+    ensures fed { FedAll W.Weighing.ops A.Alphabet.test trace.now chart.old chart.new result }
+    ensures long { length chart.new.weights.now ≡ length chart.old.weights.now }
     ensures book { chart.new.book ≡ chart.old.book }
     ensures same { chart.new.weights.ghost_name ≡ chart.old.weights.ghost_name }
-    ensures refused { FedAll chart.old chart.new (length trace.now) result }
 {
     for event in trace {
         chart.feed(*event)?;
     }
     Ok(())
-}
-
-// Each weighing cuts, feeds and asks in turn: one function that does it for all of them can't be stated yet, since neither a
-// closure over a chart nor a result that holds one can stand in its contract. Each takes its table alone, whose length is known to stay.
-
-// Whether there is a reading of a trace, worked out in a table.
-fn verdict_in<A: Alphabet>(
-    weights: &mut [bool],
-    book: &ClosedBook<A>,
-    trace: &[A::Event],
-) -> Result<Verdict, FeedFault>
-    ensures answer { ForTests A.Alphabet.fits (λ test. IfOk result (λ r. Explained (closed_book book.now) (closed_fits test book.now) trace.now r.0)) }
-    ensures refused { HasRoom (binarised (closed_book book.now)).symbols (length weights.new) (length trace.now) → IsOk result }
-    ensures room { ForTests A.Alphabet.fits (λ _. IsOk result → HasRoom (binarised (closed_book book.now)).symbols (length weights.new) (length trace.now)) }
-{
-    let mut chart: Chart<A, YesNo> = Chart::cut(book, weights);
-    feed_all(&mut chart, trace)?;
-    Ok(Verdict(explained(&chart)))
-}
-
-// How many readings of a trace there are, worked out in a table.
-fn count_in<A: Alphabet>(
-    weights: &mut [Capped],
-    book: &ClosedBook<A>,
-    trace: &[A::Event],
-) -> Result<u32, FeedFault>
-    ensures answer { ForTests A.Alphabet.fits (λ test. IfOk result (λ r. CountsReadings (closed_book book.now) (closed_fits test book.now) 4294967295 trace.now r)) }
-    ensures refused { HasRoom (binarised (closed_book book.now)).symbols (length weights.new) (length trace.now) → IsOk result }
-    ensures room { ForTests A.Alphabet.fits (λ _. IsOk result → HasRoom (binarised (closed_book book.now)).symbols (length weights.new) (length trace.now)) }
-{
-    let mut chart: Chart<A, Count> = Chart::cut(book, weights);
-    feed_all(&mut chart, trace)?;
-    Ok(readings(&chart))
-}
-
-// What the cheapest reading of a trace costs, worked out in a table.
-fn least_in<A: Alphabet>(
-    weights: &mut [Capped],
-    book: &ClosedBook<A>,
-    trace: &[A::Event],
-) -> Result<u32, FeedFault>
-    ensures answer { ForTests A.Alphabet.fits (λ test. IfOk result (λ r. IsLeastCost (closed_book book.now) (closed_fits test book.now) 4294967295 trace.now r)) }
-    ensures refused { HasRoom (binarised (closed_book book.now)).symbols (length weights.new) (length trace.now) → IsOk result }
-    ensures room { ForTests A.Alphabet.fits (λ _. IsOk result → HasRoom (binarised (closed_book book.now)).symbols (length weights.new) (length trace.now)) }
-{
-    let mut chart: Chart<A, LeastCost> = Chart::cut(book, weights);
-    feed_all(&mut chart, trace)?;
-    Ok(least_cost(&chart))
 }
 
 // A table of weights for each weighing.
@@ -133,6 +83,8 @@ pub struct Tables {
     costs: Vec<Capped>,
 }
 
+// Each weighing cuts, feeds and asks in turn: one function that does it for all of them can't be stated yet, since neither a
+// closure over a chart nor a result that holds one can stand in its contract.
 impl Tables {
     // Tables of so many weights.
     pub fn new(heap: Global, weights: usize) -> Result<Tables, AllocError>
@@ -151,12 +103,13 @@ impl Tables {
         book: &ClosedBook<A>,
         trace: &[A::Event],
     ) -> Result<Verdict, FeedFault>
-        ensures answer { ForTests A.Alphabet.fits (λ test. IfOk result (λ r. Explained (closed_book book.now) (closed_fits test book.now) trace.now r.0)) }
-        ensures refused { HasRoom (binarised (closed_book book.now)).symbols (vec_len self.old.verdicts) (length trace.now) → IsOk result }
-        ensures room { ForTests A.Alphabet.fits (λ _. IsOk result → HasRoom (binarised (closed_book book.now)).symbols (vec_len self.old.verdicts) (length trace.now)) }
+        ensures answer { IfOk result (λ r. Explained (closed_book book.now) (closed_fits A.Alphabet.test book.now) trace.now r.0) }
+        ensures room { IsOk result ↔ HasRoom (binarised (closed_book book.now)).symbols (vec_len self.old.verdicts) (length trace.now) }
         ensures tables { AsLong self.old self.new }
     {
-        verdict_in(&mut self.verdicts, book, trace)
+        let mut chart: Chart<A, YesNo> = Chart::cut(book, &mut self.verdicts);
+        feed_all(&mut chart, trace)?;
+        Ok(Verdict(explained(&chart)))
     }
 
     // How many readings of a trace there are, or the refusal of an event.
@@ -165,12 +118,13 @@ impl Tables {
         book: &ClosedBook<A>,
         trace: &[A::Event],
     ) -> Result<u32, FeedFault>
-        ensures answer { ForTests A.Alphabet.fits (λ test. IfOk result (λ r. CountsReadings (closed_book book.now) (closed_fits test book.now) 4294967295 trace.now r)) }
-        ensures refused { HasRoom (binarised (closed_book book.now)).symbols (vec_len self.old.counts) (length trace.now) → IsOk result }
-        ensures room { ForTests A.Alphabet.fits (λ _. IsOk result → HasRoom (binarised (closed_book book.now)).symbols (vec_len self.old.counts) (length trace.now)) }
+        ensures answer { IfOk result (λ r. CountsReadings (closed_book book.now) (closed_fits A.Alphabet.test book.now) 4294967295 trace.now r) }
+        ensures room { IsOk result ↔ HasRoom (binarised (closed_book book.now)).symbols (vec_len self.old.counts) (length trace.now) }
         ensures tables { AsLong self.old self.new }
     {
-        count_in(&mut self.counts, book, trace)
+        let mut chart: Chart<A, Count> = Chart::cut(book, &mut self.counts);
+        feed_all(&mut chart, trace)?;
+        Ok(readings(&chart))
     }
 
     // What the cheapest reading of a trace costs, or the refusal of an event.
@@ -179,12 +133,13 @@ impl Tables {
         book: &ClosedBook<A>,
         trace: &[A::Event],
     ) -> Result<u32, FeedFault>
-        ensures answer { ForTests A.Alphabet.fits (λ test. IfOk result (λ r. IsLeastCost (closed_book book.now) (closed_fits test book.now) 4294967295 trace.now r)) }
-        ensures refused { HasRoom (binarised (closed_book book.now)).symbols (vec_len self.old.costs) (length trace.now) → IsOk result }
-        ensures room { ForTests A.Alphabet.fits (λ _. IsOk result → HasRoom (binarised (closed_book book.now)).symbols (vec_len self.old.costs) (length trace.now)) }
+        ensures answer { IfOk result (λ r. IsLeastCost (closed_book book.now) (closed_fits A.Alphabet.test book.now) 4294967295 trace.now r) }
+        ensures room { IsOk result ↔ HasRoom (binarised (closed_book book.now)).symbols (vec_len self.old.costs) (length trace.now) }
         ensures tables { AsLong self.old self.new }
     {
-        least_in(&mut self.costs, book, trace)
+        let mut chart: Chart<A, LeastCost> = Chart::cut(book, &mut self.costs);
+        feed_all(&mut chart, trace)?;
+        Ok(least_cost(&chart))
     }
 
     // The totals of a trace, or the refusal of an event.
@@ -193,9 +148,8 @@ impl Tables {
         book: &ClosedBook<A>,
         trace: &[A::Event],
     ) -> Result<Totals, FeedFault>
-        ensures answer { ForTests A.Alphabet.fits (λ test. IfOk result (λ r. AreTotals book.now test trace.now r)) }
-        ensures refused { HaveRoom (binarised (closed_book book.now)).symbols self.old (length trace.now) → IsOk result }
-        ensures room { ForTests A.Alphabet.fits (λ _. IsOk result → HaveRoom (binarised (closed_book book.now)).symbols self.old (length trace.now)) }
+        ensures answer { IfOk result (λ r. AreTotals book.now A.Alphabet.test trace.now r) }
+        ensures room { IsOk result ↔ HaveRoom (binarised (closed_book book.now)).symbols self.old (length trace.now) }
         ensures tables { AsLong self.old self.new }
     {
         Ok(Totals {
