@@ -1,5 +1,5 @@
 -- What a chart says of the book and the events that calls lead to.
-use Rattle.std.proofs.Common.{◌≡◌, ℕ, Bool, List, map, length, sym, ap, ◌∙◌, subst}
+use Rattle.std.proofs.Common.{◌≡◌, ℕ, Bool, List, length, ap, ◌∙◌, subst}
 use Rattle.grammar.specs.Productions.{Book, Production}
 use Rattle.grammar.specs.Semiring.{Ops}
 use Rattle.grammar.specs.Binarise.{binarised}

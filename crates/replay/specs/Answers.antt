@@ -1,5 +1,5 @@
 -- What each call is answered, from the calls' arguments alone.
-use Rattle.std.specs.Prelude.{ℕ, ◌+◌, ◌-◌, cond, List, [], ◌∷◌, length, Ok, Err, ◌==◌}
+use Rattle.std.specs.Prelude.{ℕ, ◌+◌, ◌-◌, cond, List, [], ◌∷◌, ◌++◌, length, Ok, Err, ◌==◌, codes, decimal}
 use Rattle.grammar.specs.Productions.{Production}
 use Rattle.conversion.specs.Rows.{written}
 use Rattle.book.specs.Faults.{offer_number, load_number, load_place, strike_number}
@@ -31,6 +31,12 @@ said (Fed (Ok n)) = says n
 said (Fed (Err f)) = refused (feed_number f)
 said (Withdrawn (Ok n)) = says n
 said (Withdrawn (Err f)) = refused (withdraw_number f)
+
+-- the same in words: a number stands by itself, a refusal after a word
+abbrev pub saying_text : Saying → List ℕ
+saying_text (says n) = decimal n
+saying_text (refused number) = codes "refused " ++ decimal number
+saying_text (stopped_at number at) = codes "refused " ++ (decimal number ++ (32 ∷ decimal at))
 
 -- a refusal by its number, where there is one; else n
 abbrev pub unless_refused : ℕ → ℕ → Saying

@@ -1,6 +1,8 @@
-use Rattle.std.proofs.Common.{map}
+use Rattle.std.proofs.Common.{map, length, subst, rules}
+use Rattle.book.specs.Fits.{table_fits}
+use Rattle.chart.specs.Charts.{HoldsChart}
+use Rattle.replay.specs.Replays.{replayed_book, replayed_events}
 use Rattle.book.proofs.FitsAt.{tests_table}
-use Rattle.book.specs.Runs.{held_after}
 use Rattle.chart.specs.Totals.{TotalIs}
 use Rattle.replay.specs.Calls.{chart_call_of}
 use Rattle.replay.proofs.Replaying.{of_calls}
@@ -19,5 +21,18 @@ returns-clause-total g c =
     let book = c.run_book-book.ensures in
     of_calls M g.A.Alphabet.test (λ W fits es. TotalIs W M fits es c.total.result) c.run_chart-chart.result c.run_book-book.result _ _ _ (map chart_call_of c.args.chart_calls.now) ran.book book.table book.held ran.long ran.holds c.total.ensures.means
 
+-- the table is what the chart has left in it, since the chart is still of that table
 pub returns-clause-chart : goal.returns-clause-chart
-returns-clause-chart g c = ?
+returns-clause-chart g c =
+    let M = g.W.Weighing.ops in
+    let ran = c.run_chart-chart.ensures in
+    let book = c.run_book-book.ensures in
+    let patterns = c.args.table.patterns.now in
+    let books = c.args.book_calls.now in
+    let calls = c.args.chart_calls.now in
+    let table = ran.same in
+    subst
+    (HoldsChart (replayed_book patterns books) M (table_fits g.A.Alphabet.test patterns) (replayed_events patterns books (length c.args.weights.now) calls))
+    (search (rules, table))
+    (of_calls M g.A.Alphabet.test (λ W fits es. HoldsChart W M fits es c.run_chart-chart.result.weights.now) c.run_chart-chart.result c.run_book-book.result _ _ _ (map chart_call_of calls) ran.book book.table book.held ran.long
+    ran.holds (λ es h. h.chart))
