@@ -1,5 +1,6 @@
 // Why a script is not run.
 use book::fault::TableFault;
+use replay::fault::ReplayFault;
 use std::alloc::AllocError;
 use std::error::Error;
 use std::fmt;
@@ -39,7 +40,9 @@ pub enum ScriptFault {
     Line(usize, Cause),
     // its table of patterns is refused
     Table(TableFault),
-    NoMemory,
+    // a replay is refused
+    Replay(ReplayFault),
+    NoMemory(AllocError),
 }
 
 impl fmt::Display for ScriptFault {
@@ -47,7 +50,8 @@ impl fmt::Display for ScriptFault {
         match self {
             ScriptFault::Line(number, cause) => write!(f, "line {number}: {cause}"),
             ScriptFault::Table(fault) => write!(f, "refused {}", fault.number()),
-            ScriptFault::NoMemory => write!(f, "memory allocation failed"),
+            ScriptFault::Replay(fault) => write!(f, "{fault}"),
+            ScriptFault::NoMemory(error) => write!(f, "{error}"),
         }
     }
 }
@@ -55,13 +59,19 @@ impl fmt::Display for ScriptFault {
 impl Error for ScriptFault {}
 
 impl From<AllocError> for ScriptFault {
-    fn from(_error: AllocError) -> ScriptFault {
-        ScriptFault::NoMemory
+    fn from(error: AllocError) -> ScriptFault {
+        ScriptFault::NoMemory(error)
     }
 }
 
 impl From<TableFault> for ScriptFault {
     fn from(fault: TableFault) -> ScriptFault {
         ScriptFault::Table(fault)
+    }
+}
+
+impl From<ReplayFault> for ScriptFault {
+    fn from(fault: ReplayFault) -> ScriptFault {
+        ScriptFault::Replay(fault)
     }
 }
