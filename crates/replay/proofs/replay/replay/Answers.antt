@@ -19,7 +19,12 @@ returns-clause-total g c =
     let M = g.W.Weighing.ops in
     let ran = c.run_chart-chart.ensures in
     let book = c.run_book-book.ensures in
-    of_calls M g.A.Alphabet.test (λ W fits es. TotalIs W M fits es c.total.result) c.run_chart-chart.result c.run_book-book.result _ _ _ (map chart_call_of c.args.chart_calls.now) ran.book book.table book.held ran.long ran.holds c.total.ensures.means
+    let patterns = c.args.table.patterns.now in
+    let books = c.args.book_calls.now in
+    let calls = c.args.chart_calls.now in
+    let said : TotalIs (replayed_book patterns books) M (table_fits g.A.Alphabet.test patterns) (replayed_events patterns books (length c.args.weights.now) calls) c.total.result =
+    of_calls M g.A.Alphabet.test (λ W fits es. TotalIs W M fits es c.total.result) c.run_chart-chart.result c.run_book-book.result _ _ _ (map chart_call_of calls) ran.book book.table book.held ran.long ran.holds c.total.ensures.means in
+    search said
 
 -- the table is what the chart has left in it, since the chart is still of that table
 pub returns-clause-chart : goal.returns-clause-chart
