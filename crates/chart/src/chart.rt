@@ -121,7 +121,7 @@ impl<'b, 'p, 't, A: Alphabet, W: Weighing> Chart<'b, 'p, 't, A, W> {
     }
 
     // Takes the last k events away: how many are held then, or the refusal. The table is not written.
-    pub(crate) fn withdraw(&mut self, k: usize) -> Result<usize, WithdrawFault>
+    pub fn withdraw(&mut self, k: usize) -> Result<usize, WithdrawFault>
         ensures withdrawn { Withdrawn W.Weighing.ops A.Alphabet.test k self.old self.new result }
         ensures runs { RunsOn W.Weighing.ops A.Alphabet.test (a_withdraw k) self.old self.new }
         ensures table { self.new.weights.now ≡ self.old.weights.now }

@@ -5,4 +5,5 @@ mod divide;
 pub mod line;
 pub mod patterns;
 pub mod rule_text;
+pub mod script;
 pub mod totals;

@@ -1,0 +1,77 @@
+// The script program: scripts in, the answer to each call out.
+ghost use Rattle.std.specs.Prelude.{◌≡◌, ◌<◌, length, IfOk, string_bytes, codes};
+
+pub mod fault;
+mod read;
+mod run;
+mod spelled;
+mod words;
+
+use crate::script::fault::{Cause, ScriptFault};
+use crate::script::read::{Part, read};
+use crate::script::run::run;
+use crate::script::spelled::Spelled;
+use book::alphabet::{Bytes, Cards};
+use std::alloc::{AllocError, Global};
+use text::lines::Lines;
+
+// The longest input that is read.
+pub const LIMIT: usize = 1_048_576;
+
+// What a script prints, by the alphabet that its first line names.
+fn script_text(heap: Global, part: Part<'_>) -> Result<String, ScriptFault> {
+    let mut number = part.first;
+    for line in Lines::of(part.text) {
+        if let Some(word) = line.words().next() {
+            if Bytes::begins_patterns(word.bytes) {
+                return run::<Bytes>(heap, &read::<Bytes>(heap, part)?);
+            }
+            if Cards::begins_patterns(word.bytes) {
+                return run::<Cards>(heap, &read::<Cards>(heap, part)?);
+            }
+            break;
+        }
+        number = number.saturating_add(1);
+    }
+    Err(ScriptFault::Line(number, Cause::NoAlphabet))
+}
+
+// Adds what a script prints, or why it is not run.
+fn push_script(heap: Global, out: &mut String, part: Part<'_>) -> Result<(), AllocError> {
+    match script_text(heap, part) {
+        Ok(text) => out.push_str(&text),
+        Err(ScriptFault::NoMemory(error)) => Err(error),
+        Err(fault) => writeln!(out, "{fault}"),
+    }
+}
+
+// What all scripts print, with the lines between them.
+fn scripts(heap: Global, input: &[u8]) -> Result<String, AllocError> {
+    let mut out = String::new(heap);
+    let mut from = 0;
+    let mut first = 1usize;
+    let mut number = 1usize;
+    for line in Lines::of(input) {
+        number = number.saturating_add(1);
+        if line.bytes() == b"%".as_slice() {
+            let text = input.get(from..line.from).unwrap_or(&[]);
+            push_script(heap, &mut out, Part { text, first })?;
+            writeln!(out, "%")?;
+            from = line.text.len() + 1;
+            first = number;
+        }
+    }
+    let text = input.get(from..).unwrap_or(&[]);
+    push_script(heap, &mut out, Part { text, first })?;
+    Ok(out)
+}
+
+// The output for an input of any bytes.
+pub fn script(heap: Global, input: &[u8]) -> Result<String, AllocError>
+    ensures { 1048576 < length input.now → IfOk result (λ s. string_bytes s ≡ codes "refused 25\n") }
+{
+    if input.len() > LIMIT {
+        return format!(in heap; "refused 25\n");
+    }
+    scripts(heap, input)
+}

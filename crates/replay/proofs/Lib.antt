@@ -1,0 +1,4 @@
+pub mod InTurn
+pub mod BookTurns
+pub mod ChartTurns
+pub mod Replaying
