@@ -1,5 +1,5 @@
 -- What is added to the cells of a table.
-use Rattle.std.proofs.Common.{◌≡◌, ℕ, ◌+◌, ◌<◌, ◌≤◌, cond, eqb, ◌⊎◌, List, length, get_or, set, sym, ap, ◌∙◌, ⊎_elim, arith}
+use Rattle.std.proofs.Common.{◌≡◌, ℕ, ◌+◌, ◌<◌, ◌≤◌, cond, eqb, ◌⊎◌, List, length, get_or, set, sym, ap, ◌∙◌, subst, ⊎_elim, arith}
 use Rattle.std.proofs.lemmas.List.{get_or-set_same, get_or-set_other}
 use Rattle.std.proofs.lemmas.Bool.{cases_eq, cond-true, cond-false, eq-eqb, ne_eqb}
 use Rattle.grammar.specs.Semiring.{Ops, Semiring}
@@ -23,10 +23,9 @@ module _ {V : Type 0} (M : Ops V) (L : Semiring M) (S place : ℕ) where
   pub added_as : (f g : ℕ → V) (was is : List V) → ((x : ℕ) → x < S → f x ≡ g x) → Added M S place f was is → Added M S place g was is
   added_as f g was is e (o, a) = (o, λ x h. a x h ∙ ap (M.plus (cell_at M was place x)) (e x h))
 
-  -- a value was added to the weight of one symbol
-  pub added_one : (s : ℕ) (v w : V) (was : List V) → s < S → place + S ≤ length was → w ≡ M.plus (cell_at M was place s) v
+  added_here : (s : ℕ) (v w : V) (was : List V) → s < S → place + S ≤ length was → w ≡ M.plus (cell_at M was place s) v
       → Added M S place (λ x. cond (eqb s x) v M.zero) was (set was (place + s) w)
-  added_one s v w was hs room e = (same_set M.zero place (place + S) (place + s) was w (omega arith) (omega arith), λ x h. at x h (cases_eq s x))
+  added_here s v w was hs room e = (same_set M.zero place (place + S) (place + s) was w (omega arith) (omega arith), λ x h. at x h (cases_eq s x))
     where
       at : (x : ℕ) → x < S → (s ≡ x) ⊎ (s ≡ x → ⊥) → cell_at M (set was (place + s) w) place x ≡ M.plus (cell_at M was place x) (cond (eqb s x) v M.zero)
       at x h d = ⊎_elim
@@ -36,16 +35,24 @@ module _ {V : Type 0} (M : Ops V) (L : Semiring M) (S place : ℕ) where
           ∙ sym (ap (M.plus (cell_at M was place x)) (cond-false (eqb s x) v M.zero (ne_eqb s x q)) ∙ plus_none M L (cell_at M was place x)))
           d
 
+  -- a value was added to the weight of one symbol, by a write to its place
+  pub added_one : (s p : ℕ) (v w : V) (was : List V) → p ≡ place + s → s < S → place + S ≤ length was → w ≡ M.plus (cell_at M was place s) v
+      → Added M S place (λ x. cond (eqb s x) v M.zero) was (set was p w)
+  added_one s p v w was h hs room e = subst (λ k. Added M S place (λ x. cond (eqb s x) v M.zero) was (set was k w)) (sym h) (added_here s v w was hs room e)
+
 module _ {V : Type 0} (M : Ops V) where
   pub cleared_none : (a b : ℕ) (was : List V) → b ≡ a → Cleared M a b was was
   cleared_none a b was e = (same_all M.zero a b was, λ j l h. absurd (omega arith))
 
-  -- one place more is cleared
-  pub cleared_more : (a p : ℕ) (v : V) (was mid : List V) → a ≤ p → p < length mid → v ≡ M.zero → Cleared M a p was mid → Cleared M a (p + 1) was (set mid p v)
-  cleared_more a p v was mid l h e (o, z) = (
+  cleared_here : (a p : ℕ) (v : V) (was mid : List V) → a ≤ p → p < length mid → v ≡ M.zero → Cleared M a p was mid → Cleared M a (p + 1) was (set mid p v)
+  cleared_here a p v was mid l h e (o, z) = (
     same_then M.zero a (p + 1) was mid (set mid p v) (same_wider M.zero a p a (p + 1) was mid (omega arith) (omega arith) o) (same_set M.zero a (p + 1) p mid v l (omega arith)),
     λ j lo hi. ⊎_elim
         (λ (q : j ≡ p). ap (λ k. get_or (set mid p v) k M.zero) q ∙ get_or-set_same mid p v M.zero h ∙ e)
         (λ (q : j ≡ p → ⊥). get_or-set_other mid p j v M.zero q ∙ z j lo (omega arith))
         (cases_eq j p),
   )
+
+  -- one place more is cleared, by a write to it
+  pub cleared_more : (a p q : ℕ) (v : V) (was mid : List V) → q ≡ p → a ≤ p → p < length mid → v ≡ M.zero → Cleared M a p was mid → Cleared M a (p + 1) was (set mid q v)
+  cleared_more a p q v was mid s l h e c = subst (λ k. Cleared M a (p + 1) was (set mid k v)) (sym s) (cleared_here a p v was mid l h e c)

@@ -1,4 +1,4 @@
-use Rattle.std.proofs.Common.{[], ◌∷◌, ◌++◌, sym, subst, rules}
+use Rattle.std.proofs.Common.{[], ◌∷◌, ◌++◌, sym, subst, rules, arith}
 use denote.Param.{layout}
 use Rattle.book.specs.Books.{closed_book, closed_fits}
 use Rattle.chart.specs.Charts.{HoldsChart}
@@ -16,4 +16,4 @@ pub returns-clause-chart : goal.returns-clause-chart
 returns-clause-chart g c es n h =
     let b = c.args.book.now in
     let table = sym c.fill.ensures.same.table in
-    subst (HoldsChart (closed_book b) g.W.Weighing.ops (closed_fits g.A.Alphabet.test b) (es ++ (c.args.event ∷ []))) (search (rules, table)) (c.fill.ensures.chart es n h)
+    subst (HoldsChart (closed_book b) g.W.Weighing.ops (closed_fits g.A.Alphabet.test b) (es ++ (c.args.event ∷ []))) (search (rules, table)) (c.fill.ensures.chart es (omega (arith, n)) h)

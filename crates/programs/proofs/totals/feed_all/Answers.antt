@@ -1,4 +1,4 @@
-use Rattle.std.proofs.Common.{arith}
+use Rattle.std.proofs.Common.{rules, arith}
 use Rattle.programs.proofs.Feeding.{no_event, one_event, all_events, stopped}
 use Rattle.programs.proofs.totals.feed_all.Goals as goal
 
@@ -7,8 +7,8 @@ loop-event-init g c = no_event g.W.Weighing.ops g.A.Alphabet.test c.args.trace.n
 
 pub loop-event-preserved : goal.loop-event-preserved
 loop-event-preserved g c =
-    one_event g.W.Weighing.ops g.A.Alphabet.test c.args.trace.now c.loop-event.event-index c.event-item.result c.args.chart.now c.loop-event.chart c.feed.new.self _
-    c.loop-event-test.true c.event-item.is c.loop-event.invariant c.in_ok-feed.ensures.fed c.in_ok-feed.ensures.book c.in_ok-feed.ensures.long c.in_ok-feed.ensures.same
+    one_event g.W.Weighing.ops g.A.Alphabet.test c.args.trace.now c.loop-event.event-index _ c.args.chart.now c.loop-event.chart c.feed.new.self _
+    c.loop-event-test.true (search (rules, c.event-item.is)) c.loop-event.invariant c.in_ok-feed.ensures.fed c.in_ok-feed.ensures.book c.in_ok-feed.ensures.long c.in_ok-feed.ensures.same
 
 pub returns-in_err-feed-clause-fed : goal.returns-in_err-feed-clause-fed
 returns-in_err-feed-clause-fed g c =

@@ -29,5 +29,5 @@ returns-clause-means g c es h =
     let M = g.W.Weighing.ops in
     let L = g.met.W.Weighing.semiring in
     let cell = total_cell W (book_sound k.book.now) M L fits es k.weights.now c.symbols.result k.events c.column_place-place.result c.peek.result
-    c.symbols.ensures.means (omega (arith, c.symbols.ensures.means, c.symbols.ensures.least)) h.many (omega (arith, c.if-self-eq0.false)) c.column_place-place.ensures h.chart c.peek.ensures in
+    c.symbols.ensures.means (omega (arith, c.symbols.ensures.means, c.symbols.ensures.least)) h.many (omega (arith, c.if-self-eq0.false)) (omega (arith, c.column_place-place.ensures)) h.chart c.peek.ensures in
     total_is W (book_sound k.book.now) M L fits es _ (cc)

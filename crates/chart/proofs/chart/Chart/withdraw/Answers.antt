@@ -1,4 +1,4 @@
-use Rattle.std.proofs.Common.{◌-◌, Ok, Err, length, ap, ◌∙◌, refl, arith}
+use Rattle.std.proofs.Common.{◌-◌, Ok, Err, length, refl, arith}
 use Rattle.std.proofs.lemmas.List.{length-take-le}
 use Rattle.chart.specs.declared.fault.WithdrawFault.TheVariants.{TooMany}
 use Rattle.chart.specs.Events.{chart_book, chart_fits}
@@ -10,10 +10,10 @@ returns-clause-withdrawn g c =
     let was = c.args.self.now in
     let k = c.args.k in (
       not_too_many was.events k c.if-k-self.false,
-      refl,
-      refl,
+      omega arith,
+      omega arith,
       (λ es h. record {
-        many = length-take-le (length es - k) es (omega arith) ∙ ap (λ n. n - k) h.many;
+        many = omega (arith, length-take-le (length es - k) es (omega arith), h.many);
         chart = front_held (chart_book was) g.W.Weighing.ops (chart_fits g.A.Alphabet.test was) es (length es - k) was.weights.now (omega arith) h.chart;
       }),
     )

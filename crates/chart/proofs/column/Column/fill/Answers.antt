@@ -28,7 +28,7 @@ loop-middle-init g c =
     record {
       outside = same_all g.W.Weighing.ops.zero (column_place k.symbols k.end) (column_place k.symbols (k.end + 1)) first.weights.now;
       middles = middles_none (closed_book k.book.now) (book_sound k.book.now) g.W.Weighing.ops g.met.W.Weighing.semiring (closed_fits g.A.Alphabet.test k.book.now)
-          k.symbols k.end first.end first.weights.now same.end;
+          k.symbols k.end _ first.weights.now (omega (arith, same.end));
       same = same;
     }
 
