@@ -15,3 +15,5 @@ pub mod Filling
 pub mod Totalling
 pub mod ByKind
 pub mod SameColumns
+pub mod Firsts
+pub mod Choices

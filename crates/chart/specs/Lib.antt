@@ -7,3 +7,4 @@ pub mod Events
 pub mod Feeds
 pub mod Totals
 pub mod Columns
+pub mod Choices

@@ -5,6 +5,7 @@ mod active;
 mod blanks;
 mod cells;
 pub mod chart;
+mod choice;
 mod column;
 mod columns;
 pub mod fault;

@@ -1,0 +1,135 @@
+// How the derivation taken goes on at a symbol, over so many events from a start on: by the first strict rule that fits, then the
+// shortest left part. All from the cells of a yes/no chart.
+ghost use Rattle.std.specs.Prelude.{◌≡◌, ◌+◌, ◌<◌, ◌≤◌, Some, MatchOption};
+ghost use Rattle.grammar.specs.Lists.{Mem, span};
+ghost use Rattle.grammar.specs.Strict.{strict_rules, strict_rules_of};
+ghost use Rattle.grammar.specs.Taken.{yes_cell, rule_fits};
+ghost use Rattle.conversion.specs.Views.{strict_rule_of};
+ghost use Rattle.chart.specs.Events.{chart_symbols};
+ghost use Rattle.chart.specs.Choices.{chart_rules, ForHeld, FirstRule, FirstCut, CutsInside, ChoiceAt, ChoiceTaken};
+
+use crate::cells::{cell_place, peek};
+use crate::chart::Chart;
+use book::alphabet::Alphabet;
+use conversion::chain::{Chain, UnitStep};
+use conversion::right::Right;
+use conversion::strict::StrictRule;
+use weighing::kinds::YesNo;
+
+// What the derivation taken has at a symbol.
+#[derive(Clone, Copy)]
+pub(crate) enum Choice {
+    // a unit step, over the derivation taken from where it leads
+    Step(UnitStep),
+    // the production of that number, over one event
+    Leaf(u8),
+    // the production of that number, over a left and a right symbol, and how many events the left one has
+    Fork(u8, u8, u8, usize),
+}
+
+// Whether a symbol has a derivation of so many events from a start on: the cell.
+fn derives<A: Alphabet>(chart: &Chart<A, YesNo>, symbol: u8, start: usize, count: usize) -> bool
+    requires symbol { symbol < chart_symbols chart.now }
+    requires part { (0 < count) × (start + count ≤ chart.now.events) }
+    ensures { ForHeld chart.now (λ fits es. result ≡ yes_cell (chart_rules chart.now) fits symbol (span es start count)) }
+{
+    let cell = cell_place(chart.book.symbols(), start + count, start);
+    peek::<YesNo>(chart.weights, cell + symbol as usize)
+}
+
+// The first cut with a derivation of the left symbol on its left and of the right symbol on its right, by the number of events on
+// the left.
+fn first_cut<A: Alphabet>(
+    chart: &Chart<A, YesNo>,
+    left: u8,
+    right: u8,
+    start: usize,
+    count: usize,
+) -> Option<usize>
+    requires symbols { (left < chart_symbols chart.now) × (right < chart_symbols chart.now) }
+    requires part { (0 < count) × (start + count ≤ chart.now.events) }
+    ensures inside { CutsInside count result }
+    ensures first { ForHeld chart.now (λ fits es. FirstCut (chart_rules chart.now) fits left right es start count result) }
+{
+    for cut in 1..count {
+        if derives(chart, left, start, cut) && derives(chart, right, start + cut, count - cut) {
+            return Some(cut);
+        }
+    }
+    None
+}
+
+// Whether a strict rule fits the events: its pattern the only one, or its two symbols the parts of a cut. The events are not
+// stored: a pattern fits one if the pattern's own symbol has a derivation of it.
+fn fits<A: Alphabet>(chart: &Chart<A, YesNo>, rule: StrictRule, start: usize, count: usize) -> bool
+    requires rule { Mem (strict_rule_of rule) (strict_rules (chart_rules chart.now)) }
+    requires part { (0 < count) × (start + count ≤ chart.now.events) }
+    ensures { ForHeld chart.now (λ fits es. result ≡ rule_fits (chart_rules chart.now) fits (span es start count) (strict_rule_of rule)) }
+{
+    match rule.right {
+        Right::Terminal(t) => count == 1 && derives(chart, 32 + t, start, 1),
+        Right::Binary(y, z) => first_cut(chart, y, z, start, count).is_some(),
+        Right::Empty | Right::Unit(_) => false,
+    }
+}
+
+// The first strict rule of a symbol that fits the events.
+fn first_rule<A: Alphabet>(
+    chart: &Chart<A, YesNo>,
+    symbol: u8,
+    start: usize,
+    count: usize,
+) -> Option<StrictRule>
+    requires symbol { symbol < chart_symbols chart.now }
+    requires part { (0 < count) × (start + count ≤ chart.now.events) }
+    ensures rule { MatchOption result (Unit {0}) (λ r. Mem (strict_rule_of r) (strict_rules_of (chart_rules chart.now) symbol)) }
+    ensures first { ForHeld chart.now (λ fits es. FirstRule (chart_rules chart.now) fits symbol (span es start count) result) }
+{
+    for rule in chart.book.converted().strict() {
+        if rule.symbol == symbol && fits(chart, *rule, start, count) {
+            return Some(*rule);
+        }
+    }
+    None
+}
+
+// What a strict rule that fits has at its end, after its chain: a leaf, or the fork of the first cut.
+fn own_rule<A: Alphabet>(
+    chart: &Chart<A, YesNo>,
+    rule: StrictRule,
+    start: usize,
+    count: usize,
+) -> Option<Choice>
+    requires rule { Mem (strict_rule_of rule) (strict_rules_of (chart_rules chart.now) rule.end) }
+    requires part { (0 < count) × (start + count ≤ chart.now.events) }
+    ensures at { ChoiceAt (chart_rules chart.now) rule.end count result }
+    ensures taken { ForHeld chart.now (λ fits es. FirstRule (chart_rules chart.now) fits rule.end (span es start count) (Some rule) → ChoiceTaken (chart_rules chart.now) fits rule.end es start count result) }
+{
+    match rule.right {
+        Right::Terminal(_) if count == 1 => Some(Choice::Leaf(rule.number)),
+        Right::Binary(y, z) => {
+            let cut = first_cut(chart, y, z, start, count)?;
+            Some(Choice::Fork(rule.number, y, z, cut))
+        }
+        _ => None,
+    }
+}
+
+// How the derivation taken goes on at a symbol, over so many events from a start on; none where there is no derivation.
+pub(crate) fn choose<A: Alphabet>(
+    chart: &Chart<A, YesNo>,
+    symbol: u8,
+    start: usize,
+    count: usize,
+) -> Option<Choice>
+    requires symbol { symbol < chart_symbols chart.now }
+    requires part { (0 < count) × (start + count ≤ chart.now.events) }
+    ensures at { ChoiceAt (chart_rules chart.now) symbol count result }
+    ensures taken { ForHeld chart.now (λ fits es. ChoiceTaken (chart_rules chart.now) fits symbol es start count result) }
+{
+    let rule = first_rule(chart, symbol, start, count)?;
+    match chart.book.converted().chain(symbol, rule.end) {
+        Some(Chain::Steps(_, step)) => Some(Choice::Step(step)),
+        _ => own_rule(chart, rule, start, count),
+    }
+}
