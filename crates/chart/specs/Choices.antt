@@ -45,11 +45,11 @@ abbrev pub CutsInside : ℕ → Option ℕ → Type 0
 CutsInside n None = Unit {0}
 CutsInside n (Some m) = (0 < m) × (m < n)
 
--- what is chosen at x over n events is a rule there: a unit step from x, a terminal rule over one event, or a binary rule and a cut
+-- what is chosen at x over n events is a rule of x: a unit step, a terminal rule, or a binary rule and a cut of n
 abbrev pub ChoiceAt : Binarised → ℕ → ℕ → Option Choice → Type 0
 ChoiceAt B x n None = Unit {0}
 ChoiceAt B x n (Some (Step u)) = (u.from ≡ x) × Leads B x u.number (drop_of u.dropped) u.to
-ChoiceAt B x n (Some (Leaf k)) = (n ≡ 1) × ((t : ℕ) × Has B x k (terminal t))
+ChoiceAt B x n (Some (Leaf k)) = (t : ℕ) × Has B x k (terminal t)
 ChoiceAt B x n (Some (Fork k y z m)) = Has B x k (binary y z) × (0 < m) × (m < n)
 
 -- by this choice a derivation of the n events from place i on is taken from x: it is the unit step over the one taken from where that

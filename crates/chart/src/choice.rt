@@ -106,12 +106,12 @@ fn own_rule<A: Alphabet>(
     ensures taken { ForHeld chart.now (λ fits es. FirstRule (chart_rules chart.now) fits rule.end (span es start count) (Some rule) → ChoiceTaken (chart_rules chart.now) fits rule.end es start count result) }
 {
     match rule.right {
-        Right::Terminal(_) if count == 1 => Some(Choice::Leaf(rule.number)),
+        Right::Terminal(_) => Some(Choice::Leaf(rule.number)),
         Right::Binary(y, z) => {
             let cut = first_cut(chart, y, z, start, count)?;
             Some(Choice::Fork(rule.number, y, z, cut))
         }
-        _ => None,
+        Right::Empty | Right::Unit(_) => None,
     }
 }
 
