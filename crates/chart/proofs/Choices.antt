@@ -1,11 +1,11 @@
 -- How the derivation taken goes on, from the first strict rule that fits and the first cut that does.
-use Rattle.std.proofs.Common.{◌≡◌, ℕ, zero, suc, ◌+◌, ◌-◌, ◌<◌, ◌≤◌, Bool, true, false, cond, eqb, ◌&&◌, ◌||◌, Some, None, Option, is_some, List, [], ◌∷◌, map, length, get_or, take, drop, sym, refl, ap, ◌∙◌, subst, ap₂, true≢false, inl, inr, arith}
+use Rattle.std.proofs.Common.{◌≡◌, ℕ, suc, ◌+◌, ◌-◌, ◌<◌, ◌≤◌, Bool, true, false, cond, eqb, ◌&&◌, Some, None, Option, is_some, List, [], ◌∷◌, map, length, get_or, take, drop, sym, refl, ap, ◌∙◌, subst, ap₂, true≢false, inl, inr, arith}
 use mathlib.Core.Path.{fun_ext}
 use Rattle.std.proofs.lemmas.List.{take_all, length-map}
 use Rattle.std.proofs.lemmas.Bool.{and_parts, and_from, cases_Bool, eq-eqb, ne_eqb}
-use Rattle.grammar.specs.Lists.{Mem, First, Cut, some_of, those, cuts, count_up, span}
-use Rattle.grammar.specs.Binarised.{Right, empty, unit, binary, terminal, Binarised, Bounded, Has, Tree, leaf, fork}
-use Rattle.grammar.specs.Chains.{ChainStep, reached, Leads, UnitChain, nothing, the_right, the_left, chosen_chain}
+use Rattle.grammar.specs.Lists.{Mem, First, Cut, some_of, cuts, count_up, span}
+use Rattle.grammar.specs.Binarised.{Right, unit, binary, terminal, Binarised, Bounded, Has, Tree, leaf, fork}
+use Rattle.grammar.specs.Chains.{ChainStep, Leads, UnitChain, nothing, the_right, the_left, chosen_chain}
 use Rattle.grammar.specs.Strict.{StrictFormRule, proper, strict_rules, strict_rules_of}
 use Rattle.grammar.specs.Taken.{step_over, chain_over, each_yes, yes_cell, rule_fits, cut_fits, Takes, takes_terminal, takes_binary}
 use Rattle.grammar.specs.Cells.{over_events}

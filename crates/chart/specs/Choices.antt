@@ -3,7 +3,7 @@ use Rattle.std.specs.Prelude.{◌≡◌, ℕ, ◌+◌, ◌-◌, ◌<◌, Bool, f
 use Rattle.grammar.specs.Lists.{First, Cut, some_of, cuts, span}
 use Rattle.grammar.specs.Binarised.{binary, terminal, Binarised, Has, Tree, fork, leaf}
 use Rattle.grammar.specs.Chains.{Leads}
-use Rattle.grammar.specs.Strict.{StrictFormRule, strict_rules_of}
+use Rattle.grammar.specs.Strict.{strict_rules_of}
 use Rattle.grammar.specs.Taken.{step_over, yes_cell, rule_fits, cut_fits, Takes}
 use Rattle.conversion.specs.Views.{drop_of, strict_rule_of}
 use Rattle.conversion.specs.declared.strict.StrictRule.{StrictRule}

@@ -1,6 +1,5 @@
 use Rattle.std.proofs.Common.{◌+◌, ◌≤◌, length, sym, ◌∙◌, arith}
 use Rattle.std.proofs.lemmas.Bool.{and_left, and_right, and_from}
-use Rattle.grammar.specs.Taken.{yes_cell}
 use Rattle.chart.specs.Choices.{chart_rules}
 use Rattle.chart.specs.Events.{chart_fits}
 use Rattle.chart.proofs.Firsts.{count_more, count_first}

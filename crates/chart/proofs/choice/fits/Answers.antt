@@ -1,11 +1,11 @@
-use Rattle.std.proofs.Common.{◌≡◌, ◌+◌, ◌≤◌, ◌<◌, eqb, Bool, true, false, ◌&&◌, length, sym, ap, ◌∙◌, subst, arith}
+use Rattle.std.proofs.Common.{◌+◌, ◌&&◌, length, sym, ap, ◌∙◌, subst, arith}
 use Rattle.std.proofs.lemmas.Bool.{eq-eqb, ne_eqb}
 use Rattle.grammar.specs.Lists.{span}
 use Rattle.grammar.specs.Taken.{yes_cell}
 use Rattle.grammar.specs.Binarise.{binarised, Within}
 use Rattle.grammar.proofs.Spans.{span_length}
 use Rattle.conversion.specs.Views.{right_side_of, strict_rule_of}
-use Rattle.chart.specs.Events.{chart_book, chart_fits, chart_symbols}
+use Rattle.chart.specs.Events.{chart_book, chart_fits}
 use Rattle.chart.specs.Choices.{chart_rules}
 use Rattle.chart.proofs.OfBook.{book_sound}
 use Rattle.chart.proofs.Choices.{symbols_least, strict_right, terminal_fits_one, binary_fits, found_fits}

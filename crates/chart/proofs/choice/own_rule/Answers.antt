@@ -1,6 +1,6 @@
-use Rattle.std.proofs.Common.{ap}
+use Rattle.std.proofs.Common.{sym, ap, true≢false, inl, inr}
 use Rattle.grammar.specs.Lists.{span}
-use Rattle.grammar.specs.Binarised.{binary, terminal}
+use Rattle.grammar.specs.Binarised.{empty, unit, binary, terminal}
 use Rattle.conversion.specs.Views.{right_side_of, strict_rule_of}
 use Rattle.chart.specs.Events.{chart_book, chart_fits}
 use Rattle.chart.specs.Choices.{cut_after}
@@ -46,5 +46,6 @@ returns-in_ok-cut-in-Binary-clause-taken g c test es h f =
 
 pub returns-in-Empty-clause-taken : goal.returns-in-Empty-clause-taken
 returns-in-Empty-clause-taken g c test es h f =
-    let q = c.in-Empty.is in
-    ?
+    let k = c.args.chart.now in
+    let own = own_proper (chart_book k) (book_sound k.book.now) (strict_rule_of c.args.rule) c.requires.rule in
+    absurd (true≢false (sym (elim c.in-Empty.is [ inl e ↦ own empty (ap right_side_of e) | inr e ↦ own (unit e.0) (ap right_side_of e.1) ])))
