@@ -1,9 +1,11 @@
 -- The rules held, as a list.
-use Rattle.std.proofs.Common.{◌≡◌, ℕ, zero, ◌<◌, List, [], map, length, get_or, sym, ap, ◌∙◌, inl, inr, arith}
+use Rattle.std.proofs.Common.{◌≡◌, ℕ, zero, ◌<◌, ◌≤◌, List, [], map, length, get_or, sym, refl, ap, ◌∙◌, inl, inr, arith}
 use Rattle.std.proofs.lemmas.List.{length-map, get_or-map, get_or_past}
 use Rattle.std.proofs.lemmas.Bool.{cases_lt}
-use Rattle.grammar.specs.Productions.{Production, Book, production, cost_of as cost_in}
+use Rattle.grammar.specs.Productions.{Production, Book, production, right_of, cost_of as cost_in}
+use Rattle.conversion.specs.declared.production.Production.{Production as Row}
 use Rattle.conversion.specs.Rows.{production_of}
+use Rattle.conversion.specs.Binarised.{rows_book}
 use Rattle.arrayvec.specs.ArrayVec.{array_vec_len}
 use Rattle.book.specs.declared.rules.Rules.{Rules}
 use Rattle.book.specs.Rules.{held, cost_of}
@@ -26,3 +28,13 @@ cost_same W n =
       | inr g ↦ get_or_past (map (λ (p : Production). p.cost) W.productions) n 0 (omega (arith, length-map W.productions (λ (p : Production). p.cost)))
           ∙ ap (λ (p : Production). p.cost) (sym (get_or_past W.productions n d g))
     ]
+
+-- the right side of a row is that of the production that it stands for
+pub right_there : (rows : List Row) (T n : ℕ) (p : Row) → n < length rows → p ≡ get_or rows n p → (production_of p).right ≡ right_of (rows_book rows T) n
+unfolding production
+right_there rows T n p h e = ap (λ q. (production_of q).right) e ∙ ap (λ (q : Production). q.right) (seen production_of rows (map production_of rows) n p refl h _)
+
+-- past the rows there is no item
+pub right_past : (rows : List Row) (T n : ℕ) → length rows ≤ n → right_of (rows_book rows T) n ≡ []
+unfolding production
+right_past rows T n g = ap (λ (q : Production). q.right) (get_or_past (map production_of rows) n _ (omega (arith, length-map rows production_of)))

@@ -1,7 +1,7 @@
 // A rule is offered to the rules held.
 ghost use Rattle.std.specs.Prelude.{◌≡◌, ◌+◌, ◌≤◌, [], map, length, MatchResult, nat_le};
 ghost use Rattle.grammar.specs.Lists.{some_of};
-ghost use Rattle.grammar.specs.Productions.{all_tails, Sound};
+ghost use Rattle.grammar.specs.Productions.{all_tails, right_of, Sound};
 ghost use Rattle.conversion.specs.Rows.{production_of, written};
 ghost use Rattle.conversion.specs.Binarised.{rows_book};
 ghost use Rattle.conversion.specs.Forms.{FormOf};
@@ -117,5 +117,16 @@ impl Rules {
         ensures { result ≡ cost_of (held self.now) number }
     {
         self.rows.get(number as usize).map_or(0, |rule| rule.cost())
+    }
+
+    // The right side of a rule, or no item where there is none of that number: as for the cost, no Option.
+    pub fn right(&self, number: u8) -> &[u8]
+        ensures { result.now ≡ right_of (rules_book self.now) number }
+    {
+        let place = number as usize;
+        match self.rows.get(place) {
+            Some(rule) => rule.right(),
+            None => &[],
+        }
     }
 }

@@ -17,3 +17,6 @@ pub mod ByKind
 pub mod SameColumns
 pub mod Firsts
 pub mod Choices
+pub mod BlankRounds
+pub mod BlankNodes
+pub mod NodeTables

@@ -8,3 +8,5 @@ pub mod Feeds
 pub mod Totals
 pub mod Columns
 pub mod Choices
+pub mod Blanks
+pub mod Nodes

@@ -2,6 +2,7 @@
 #![tactic(auto)]
 
 mod active;
+mod blank_walk;
 mod blanks;
 mod cells;
 pub mod chart;
@@ -9,8 +10,11 @@ mod choice;
 mod column;
 mod columns;
 pub mod fault;
+pub mod node;
+mod node_table;
 mod nullable;
 mod pairs;
+pub mod part;
 mod strict;
 pub mod totals;
 mod weighed;

@@ -1,0 +1,47 @@
+// The caller's table of nodes, written from its beginning.
+ghost use Rattle.std.specs.Prelude.{◌≡◌, ◌-◌, List, [], ◌∷◌, ◌++◌};
+ghost use Rattle.grammar.specs.Nodes.{Node as TreeNode};
+ghost use Rattle.chart.specs.Nodes.{node_of, nodes_of, Wrote, room, SameTable};
+
+use crate::node::Node;
+
+// So many nodes are written at most.
+const NODES: usize = 65535;
+
+// A table of nodes, how many are written in it, and whether there was one that found no room.
+#[derive(Drop)]
+pub(crate) struct NodeTable<'n> {
+    pub(crate) nodes: &'n mut [Node],
+    pub(crate) written: usize,
+    pub(crate) full: bool,
+}
+
+impl<'n> NodeTable<'n> {
+    // Nothing is written yet, and the table is left as it is.
+    pub(crate) fn of(nodes: &'n mut [Node]) -> NodeTable<'n>
+        ensures wrote { Wrote (nodes_of nodes.old) [] result }
+        ensures table { result.nodes.now ≡ nodes.old }
+        ensures same { result.nodes.ghost_name ≡ nodes.entry.ghost_name }
+    {
+        NodeTable {
+            nodes,
+            written: 0,
+            full: false,
+        }
+    }
+
+    // Writes a node after the others, or notes that there is no room for it.
+    pub(crate) fn push(&mut self, node: Node)
+        ensures wrote { (t ks : List TreeNode) → Wrote t ks self.old → Wrote t (ks ++ (node_of node ∷ [])) self.new }
+        ensures room { room self.new ≡ room self.old - 1 }
+        ensures same { SameTable self.old self.new }
+    {
+        let place = self.written;
+        if place < self.nodes.len().min(NODES) {
+            self.nodes[place] = node;
+            self.written = place + 1;
+        } else {
+            self.full = true;
+        }
+    }
+}
