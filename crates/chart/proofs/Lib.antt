@@ -20,3 +20,4 @@ pub mod Choices
 pub mod BlankRounds
 pub mod BlankNodes
 pub mod NodeTables
+pub mod Writing

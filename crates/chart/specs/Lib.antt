@@ -10,3 +10,4 @@ pub mod Columns
 pub mod Choices
 pub mod Blanks
 pub mod Nodes
+pub mod Writing

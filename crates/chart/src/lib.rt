@@ -18,3 +18,4 @@ pub mod part;
 mod strict;
 pub mod totals;
 mod weighed;
+mod writer;
