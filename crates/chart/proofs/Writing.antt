@@ -1,9 +1,9 @@
 -- What stands below a choice, and the nodes of the derivation that it takes.
-use Rattle.std.proofs.Common.{◌≡◌, ℕ, zero, suc, ◌+◌, ◌-◌, ◌<◌, ◌≤◌, Bool, true, false, cond, ltb, ◌⊎◌, Some, List, [], ◌∷◌, ◌++◌, length, drop, sym, refl, ap, ◌∙◌, subst, ap₂, inl, inr, true≢false, arith}
+use Rattle.std.proofs.Common.{◌≡◌, ℕ, zero, suc, ◌+◌, ◌-◌, ◌<◌, ◌≤◌, Bool, true, false, cond, ltb, ◌⊎◌, Some, List, [], ◌∷◌, ◌++◌, length, drop, get_or, sym, refl, ap, ◌∙◌, subst, ap₂, inl, inr, true≢false, arith}
 use Rattle.std.proofs.lemmas.Bool.{lt-ltb, le-ltb, cond-true, cond-false}
 use Rattle.std.proofs.lemmas.List.{append-nil}
 use Rattle.grammar.specs.Lists.{Mem, span}
-use Rattle.grammar.specs.Productions.{Book, Sound, Numbers, right_of, first_tail}
+use Rattle.grammar.specs.Productions.{Production, production, Book, Sound, Numbers, right_of, first_tail}
 use Rattle.grammar.specs.Binarised.{Right, empty, unit, binary, terminal, Rule, Binarised, Has, Tree, null, over, fork, leaf, root, width, Derives}
 use Rattle.grammar.specs.Binarise.{one_item, binaries, binarise_right, binarised, Within}
 use Rattle.grammar.specs.Nullable.{nullable, nullable_tree}
@@ -19,6 +19,9 @@ use Rattle.conversion.specs.Views.{drop_of}
 use Rattle.chart.specs.declared.choice.Choice.{Choice}
 use Rattle.chart.specs.declared.choice.Choice.TheVariants.{Step, Leaf, Fork}
 use Rattle.chart.specs.Choices.{ChoiceAt, ChoiceTaken}
+use Rattle.grammar.specs.Answers.{limit}
+use Rattle.chart.specs.declared.node_table.NodeTable.{NodeTable}
+use Rattle.chart.specs.Nodes.{room}
 use Rattle.chart.specs.Blanks.{blank_nodes, AllBlank}
 use Rattle.chart.specs.Writing.{choice_number, RuleOver, Stands, below_root}
 use Rattle.chart.proofs.BlankNodes.{first_right, first_pair, blank_width, tail_nodes, nullable_head, item_below}
@@ -54,6 +57,10 @@ step_number : (B : Binarised) (x n : ℕ) (d : Dropped) (t : Tree) → root_numb
 step_number B x n nothing t = refl
 step_number B x n (the_right z) t = refl
 step_number B x n (the_left z) t = refl
+
+-- a table that is not full has room
+pub room_some : (s : NodeTable) → s.full ≡ false → 0 < room s
+room_some s e = subst (λ b. 0 < limit (length s.nodes.now) - s.written + cond b 0 1) (sym e) (omega arith)
 
 module _ (W : Book) (S : Sound W) where
   module _ {E : Type 0} (fits : E → ℕ → Bool) where
@@ -235,3 +242,13 @@ module _ (W : Book) (S : Sound W) where
     -- the left symbol is a head where it is nullable
     pub over_left : (ys : List ℕ) → RuleOver (binarised W) x k ys → (y z : ℕ) → Has (binarised W) x k (binary y z) → nullable (binarised W) y ≡ true → y < 32
     over_left ys r y z h t = nullable_head W S y (over_binary ys r y z h).0 t
+
+  -- a production has eight items at most
+  pub right_short : (n : ℕ) → length (right_of W n) ≤ 8
+  unfolding production
+  right_short n = S_short W.productions S.short n
+    where
+      S_short : (ps : List Production) → ((p : Production) → Mem p ps → length p.right ≤ 8) → (n : ℕ) → length (get_or ps n (record { head = zero; right = []; cost = zero })).right ≤ 8
+      S_short [] h n = omega arith
+      S_short (p ∷ ps) h zero = h p (inl refl)
+      S_short (p ∷ ps) h (suc n) = S_short ps (λ q m. h q (inr m)) n

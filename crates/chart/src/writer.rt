@@ -50,7 +50,10 @@ pub(crate) fn write_symbol<A: Alphabet>(
     ensures wrote { (t ks : List TreeNode) → Stands (chart_rules chart.now) symbol items.now → ForHeld chart.now (λ fits es. (s : Tree) → Takes (chart_rules chart.now) fits symbol s (span es start count) → Wrote t ks table.old → Wrote t (ks ++ tree_nodes start s) table.new) }
     ensures same { SameTable table.old table.new }
 {
-    if table.full || (HEADS <= symbol && symbol < TAILS) {
+    if table.full {
+        return;
+    }
+    if symbol >= HEADS && symbol < TAILS {
         return;
     }
     if let Some(choice) = choose(chart, symbol, start, count) {
@@ -92,14 +95,16 @@ fn write_parts<A: Alphabet>(
         Choice::Leaf(_) => {}
         Choice::Step(step) => match step.dropped {
             None => write_symbol(chart, step.to, rest, start, count, table),
-            Some(Dropped::Right(_)) => {
-                write_symbol(chart, step.to, &[], start, count, table);
-                write_blanks(converted, rest, (start + count) as u16, table);
-            }
-            Some(Dropped::Left(left)) => {
-                write_blank(converted, left, start as u16, table);
-                write_symbol(chart, step.to, rest, start, count, table);
-            }
+            Some(dropped) => match dropped {
+                Dropped::Right(_) => {
+                    write_symbol(chart, step.to, &[], start, count, table);
+                    write_blanks(converted, rest, (start + count) as u16, table);
+                }
+                Dropped::Left(left) => {
+                    write_blank(converted, left, start as u16, table);
+                    write_symbol(chart, step.to, rest, start, count, table);
+                }
+            },
         },
         Choice::Fork(_, left, right, cut) => {
             write_symbol(chart, left, &[], start, cut, table);
