@@ -1,11 +1,11 @@
 -- What stands below a choice, and the nodes of the derivation that it takes.
-use Rattle.std.proofs.Common.{◌≡◌, ℕ, zero, suc, ◌+◌, ◌-◌, ◌<◌, ◌≤◌, Bool, true, false, cond, ltb, ◌⊎◌, Some, List, [], ◌∷◌, ◌++◌, length, drop, get_or, sym, refl, ap, ◌∙◌, subst, ap₂, inl, inr, true≢false, arith}
+use Rattle.std.proofs.Common.{◌≡◌, ℕ, zero, suc, ◌+◌, ◌-◌, ◌<◌, ◌≤◌, Bool, true, false, cond, ltb, Some, List, [], ◌∷◌, ◌++◌, length, drop, get_or, sym, refl, ap, ◌∙◌, subst, ap₂, inl, inr, true≢false, arith}
 use Rattle.std.proofs.lemmas.Bool.{lt-ltb, le-ltb, cond-true, cond-false}
 use Rattle.std.proofs.lemmas.List.{append-nil}
 use Rattle.grammar.specs.Lists.{Mem, span}
-use Rattle.grammar.specs.Productions.{Production, production, Book, Sound, Numbers, right_of, first_tail}
-use Rattle.grammar.specs.Binarised.{Right, empty, unit, binary, terminal, Rule, Binarised, Has, Tree, null, over, fork, leaf, root, width, Derives}
-use Rattle.grammar.specs.Binarise.{one_item, binaries, binarise_right, binarised, Within}
+use Rattle.grammar.specs.Productions.{Production, production, Book, Sound, right_of, first_tail}
+use Rattle.grammar.specs.Binarised.{Right, empty, unit, binary, terminal, Binarised, Has, Tree, null, over, fork, leaf, root, width}
+use Rattle.grammar.specs.Binarise.{one_item, binarise_right, binarised}
 use Rattle.grammar.specs.Nullable.{nullable, nullable_tree}
 use Rattle.grammar.specs.Chains.{Dropped, nothing, the_right, the_left, Leads}
 use Rattle.grammar.specs.Nodes.{Node, mark, tree_nodes}
@@ -14,16 +14,16 @@ use Rattle.grammar.proofs.Theorems.{reading_plain, reading_one, reading_exact}
 use Rattle.grammar.proofs.Once.{derives_width}
 use Rattle.grammar.proofs.ChainOver.{derives_root}
 use Rattle.grammar.proofs.Binarise.{whole}
-use Rattle.grammar.proofs.BinarisedRules.{binarised_bounded, binarised_has, binarised_same, binarised_within, one_item_cases, head_rule, symbol_rule, tail_same}
+use Rattle.grammar.proofs.BinarisedRules.{binarised_bounded, binarised_has, binarised_same, binarised_within, one_item_cases, head_rule, tail_same}
 use Rattle.conversion.specs.Views.{drop_of}
 use Rattle.chart.specs.declared.choice.Choice.{Choice}
 use Rattle.chart.specs.declared.choice.Choice.TheVariants.{Step, Leaf, Fork}
-use Rattle.chart.specs.Choices.{ChoiceAt, ChoiceTaken}
+use Rattle.chart.specs.Choices.{choice_number, ChoiceAt, ChoiceTaken}
 use Rattle.grammar.specs.Answers.{limit}
 use Rattle.chart.specs.declared.node_table.NodeTable.{NodeTable}
 use Rattle.chart.specs.Nodes.{room}
 use Rattle.chart.specs.Blanks.{blank_nodes, AllBlank}
-use Rattle.chart.specs.Writing.{choice_number, RuleOver, Stands, below_root}
+use Rattle.chart.specs.Writing.{RuleOver, Stands, below_root}
 use Rattle.chart.proofs.BlankNodes.{first_right, first_pair, blank_width, tail_nodes, nullable_head, item_below}
 
 -- the nodes of a tree by its root: of a head its node first, of a tail those below alone

@@ -45,6 +45,12 @@ abbrev pub CutsInside : ℕ → Option ℕ → Type 0
 CutsInside n None = Unit {0}
 CutsInside n (Some m) = (0 < m) × (m < n)
 
+-- the number of a choice's production
+abbrev pub choice_number : Choice → ℕ
+choice_number (Step u) = u.number
+choice_number (Leaf k) = k
+choice_number (Fork k y z m) = k
+
 -- what is chosen at x over n events is a rule of x: a unit step, a terminal rule, or a binary rule and a cut of n
 abbrev pub ChoiceAt : Binarised → ℕ → ℕ → Option Choice → Type 0
 ChoiceAt B x n None = Unit {0}

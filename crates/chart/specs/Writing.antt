@@ -1,17 +1,9 @@
 -- What is written for a symbol of the derivation taken: which items it stands for, and the nodes of a tree below its root.
-use Rattle.std.specs.Prelude.{ℕ, suc, ◌+◌, ◌<◌, ◌≤◌, ◌⊎◌, List, [], ◌++◌}
+use Rattle.std.specs.Prelude.{ℕ, ◌+◌, ◌<◌, ◌≤◌, ◌⊎◌, List, [], ◌++◌}
 use Rattle.grammar.specs.Lists.{Mem}
 use Rattle.grammar.specs.Binarised.{Rule, Binarised, Tree, null, over, fork, leaf, width}
 use Rattle.grammar.specs.Binarise.{binarise_right}
 use Rattle.grammar.specs.Nodes.{Node, tree_nodes}
-use Rattle.chart.specs.declared.choice.Choice.{Choice}
-use Rattle.chart.specs.declared.choice.Choice.TheVariants.{Step, Leaf, Fork}
-
--- the number of the production
-abbrev pub choice_number : Choice → ℕ
-choice_number (Step u) = u.number
-choice_number (Leaf k) = k
-choice_number (Fork k y z m) = k
 
 -- rule k of x, with rules of tails that follow it, comes from a right side of these items, none of which is a tail
 abbrev pub RuleOver : Binarised → ℕ → ℕ → List ℕ → Type 0

@@ -6,7 +6,7 @@ ghost use Rattle.grammar.specs.Strict.{strict_rules, strict_rules_of};
 ghost use Rattle.grammar.specs.Taken.{yes_cell, rule_fits};
 ghost use Rattle.conversion.specs.Views.{strict_rule_of};
 ghost use Rattle.chart.specs.Events.{chart_symbols};
-ghost use Rattle.chart.specs.Choices.{chart_rules, ForHeld, FirstRule, FirstCut, CutsInside, ChoiceAt, ChoiceTaken};
+ghost use Rattle.chart.specs.Choices.{chart_rules, ForHeld, FirstRule, FirstCut, CutsInside, choice_number, ChoiceAt, ChoiceTaken};
 
 use crate::cells::{cell_place, peek};
 use crate::chart::Chart;
@@ -25,6 +25,18 @@ pub(crate) enum Choice {
     Leaf(u8),
     // the production of that number, over a left and a right symbol, and how many events the left one has
     Fork(u8, u8, u8, usize),
+}
+
+impl Choice {
+    // The number of the production.
+    pub(crate) fn number(self) -> u8
+        ensures { result ≡ choice_number self }
+    {
+        match self {
+            Choice::Step(step) => step.number,
+            Choice::Leaf(number) | Choice::Fork(number, _, _, _) => number,
+        }
+    }
 }
 
 // Whether a symbol has a derivation of so many events from a start on: the cell.

@@ -6,8 +6,8 @@ ghost use Rattle.grammar.specs.Nodes.{Node as TreeNode, tree_nodes};
 ghost use Rattle.grammar.specs.Taken.{Takes};
 ghost use Rattle.chart.specs.Events.{chart_symbols};
 ghost use Rattle.chart.specs.Nodes.{Wrote, SameTable};
-ghost use Rattle.chart.specs.Choices.{chart_rules, ForHeld, ChoiceAt, ChoiceTaken};
-ghost use Rattle.chart.specs.Writing.{choice_number, RuleOver, Stands, below_root};
+ghost use Rattle.chart.specs.Choices.{chart_rules, ForHeld, choice_number, ChoiceAt, ChoiceTaken};
+ghost use Rattle.chart.specs.Writing.{RuleOver, Stands, below_root};
 
 use crate::blank_walk::{write_blank, write_blanks};
 use crate::chart::Chart;
@@ -23,16 +23,6 @@ const HEADS: u8 = 32;
 
 // Symbols from this on are tails; those between are the patterns' own.
 const TAILS: u8 = 64;
-
-// The number of the production that a choice is by.
-fn number(choice: Choice) -> u8
-    ensures { result ≡ choice_number choice }
-{
-    match choice {
-        Choice::Step(step) => step.number,
-        Choice::Leaf(number) | Choice::Fork(number, _, _, _) => number,
-    }
-}
 
 // Writes the nodes of the derivation taken from a symbol over so many events from a start on: for a head its node, then those below;
 // for a tail those below, which are those of the items that it stands for; for a pattern none. It ends where the table is full.
@@ -58,7 +48,7 @@ pub(crate) fn write_symbol<A: Alphabet>(
     }
     if let Some(choice) = choose(chart, symbol, start, count) {
         if symbol < HEADS {
-            let rule = number(choice);
+            let rule = choice.number();
             table.push(Node {
                 rule: rule as u16,
                 first: start as u16,

@@ -1,6 +1,5 @@
-use Rattle.std.proofs.Common.{◌≡◌, ℕ, ◌+◌, ◌-◌, ◌<◌, ◌≤◌, true, Some, List, [], ◌∷◌, ◌++◌, length, drop, sym, ap, ◌∙◌, subst, inl, inr, refl, append_assoc, arith}
+use Rattle.std.proofs.Common.{◌≡◌, ◌+◌, ◌<◌, ◌≤◌, true, Some, List, [], ◌∷◌, ◌++◌, length, drop, sym, ap, ◌∙◌, subst, inl, append_assoc, arith}
 use Rattle.std.proofs.lemmas.List.{append-nil}
-use Rattle.std.proofs.lemmas.Bool.{and_parts}
 use Rattle.grammar.specs.Productions.{right_of}
 use Rattle.grammar.specs.Lists.{span}
 use Rattle.grammar.specs.Chains.{Leads, the_right, the_left}
@@ -9,16 +8,15 @@ use Rattle.grammar.specs.Nullable.{nullable, nullable_tree}
 use Rattle.grammar.specs.Taken.{step_over, Takes}
 use Rattle.grammar.proofs.Spans.{span_length}
 use Rattle.conversion.specs.Views.{drop_of}
-use Rattle.conversion.specs.declared.chain.Dropped.TheVariants.{Right as OnTheRight, Left as OnTheLeft}
 use Rattle.chart.specs.Blanks.{blank_nodes, AllBlank}
 use Rattle.chart.specs.declared.choice.Choice.TheVariants.{Step, Leaf, Fork}
 use Rattle.chart.specs.Events.{chart_book, chart_fits}
 use Rattle.chart.specs.Nodes.{Wrote, room}
-use Rattle.chart.specs.Choices.{chart_rules, ChoiceAt, ChoiceTaken}
-use Rattle.chart.specs.Writing.{choice_number, RuleOver, Stands, below_root}
+use Rattle.chart.specs.Choices.{chart_rules, choice_number, ChoiceAt, ChoiceTaken}
+use Rattle.chart.specs.Writing.{RuleOver, Stands, below_root}
 use Rattle.chart.proofs.OfBook.{book_sound}
 use Rattle.chart.proofs.NodeTables.{wrote_full}
-use Rattle.chart.proofs.Writing.{leaf_below, unit_below, right_below, left_below, fork_below, tail_below, taken_width, taken_root, taken_one, taken_yes, pattern_nodes, head_chosen, choice_has, choice_over, over_some, tail_over, step_small, fork_small, over_unit, over_binary, over_blank, over_left, room_some, right_short}
+use Rattle.chart.proofs.Writing.{leaf_below, unit_below, right_below, left_below, fork_below, tail_below, taken_root, taken_yes, pattern_nodes, head_chosen, choice_over, over_some, tail_over, step_small, fork_small, over_unit, over_binary, over_blank, over_left, room_some, right_short}
 use Rattle.grammar.specs.Binarise.{binarised}
 use Rattle.book.specs.Rules.{rules_book}
 use Rattle.book.specs.declared.converted.Converted.{Converted}
