@@ -1,10 +1,10 @@
 -- The nodes of a chosen tree without events, by the productions as they are written, and the rounds that find its symbols.
-use Rattle.std.proofs.Common.{◌≡◌, ℕ, zero, suc, ◌+◌, ◌<◌, ◌≤◌, true, false, cond, ltb, List, [], ◌∷◌, ◌++◌, length, get_or, take, drop, sym, refl, ap, ◌∙◌, subst, ap₂, append_assoc, inl, inr, arith}
-use Rattle.std.proofs.lemmas.Bool.{both_ways, false≢true, cases_lt, cases_eq, cases_Bool, lt-ltb, le-ltb, cond-true, cond-false, or_cases, and_parts, and_from}
+use Rattle.std.proofs.Common.{◌≡◌, ℕ, zero, suc, ◌+◌, ◌<◌, ◌≤◌, true, false, ltb, List, [], ◌∷◌, ◌++◌, length, get_or, take, drop, sym, refl, ap, ◌∙◌, subst, ap₂, append_assoc, inl, inr, arith}
+use Rattle.std.proofs.lemmas.Bool.{both_ways, false≢true, cases_lt, cases_Bool, lt-ltb, le-ltb, cond-true, cond-false, or_cases, and_parts, and_from}
 use Rattle.std.proofs.lemmas.List.{append-nil, take_more, take-append-drop}
-use Rattle.grammar.specs.Lists.{Mem, each}
-use Rattle.grammar.specs.Binarised.{Right, empty, unit, binary, terminal, Rule, rule, Binarised, Bounded, Has, OwnRule, rules_of, Tree, null, over, fork, leaf, width}
-use Rattle.grammar.specs.Productions.{Book, Sound, Numbers, right_of, head_of, first_tail}
+use Rattle.grammar.specs.Lists.{Mem}
+use Rattle.grammar.specs.Binarised.{Right, empty, unit, binary, terminal, Rule, rule, Binarised, Bounded, Has, OwnRule, rules_of, Tree, fork, width}
+use Rattle.grammar.specs.Productions.{Book, Sound, Numbers, right_of, first_tail}
 use Rattle.grammar.specs.Binarise.{one_item, binaries, binarise_right, binarised}
 use Rattle.grammar.specs.Nullable.{ready, nullable_after, nullable, nullable_tree, first_ready, rule_tree}
 use Rattle.grammar.specs.Nodes.{Node, mark, tree_nodes}
@@ -12,7 +12,7 @@ use Rattle.grammar.proofs.Lists.{first_from}
 use Rattle.grammar.proofs.Nullable.{rule_has, nullable_derives}
 use Rattle.grammar.proofs.Once.{derives_width}
 use Rattle.grammar.proofs.Chosen.{nullable_chosen}
-use Rattle.grammar.proofs.BinarisedRules.{get_d_mem, binarised_bounded, binarised_has, one_item_cases, binaries_left, head_rule, head_small, item_small, symbol_rule, tail_same}
+use Rattle.grammar.proofs.BinarisedRules.{get_d_mem, binarised_bounded, binarised_has, one_item_cases, binaries_left, head_rule, item_small, symbol_rule, tail_same}
 use Rattle.conversion.specs.Views.{right_side_of}
 use Rattle.conversion.specs.Held.{Brings}
 use Rattle.conversion.specs.declared.nullable.Brought.{Brought}
@@ -57,9 +57,6 @@ abbrev pub AllOf : Binarised → List Rule → Type 0
 AllOf B rs = (r : Rule) → Mem r rs → Mem r B.rules
 
 module _ (W : Book) (S : Sound W) where
-  abbrev B : Binarised
-  B = binarised W
-
   bd : Bounded (binarised W)
   bd = binarised_bounded W S
 
@@ -246,3 +243,10 @@ module _ (B : Binarised) (at : ℕ) (ys : List ℕ) (i : ℕ) where
         ∙ append_assoc ks (blank_nodes B at (take i ys)) (k ∷ l)
         ∙ ap (λ m. ks ++ (blank_nodes B at (take i ys) ++ m)) (sym (append-nil (f (get_or ys i 0)) ∙ e))
         ∙ ap (λ m. ks ++ m) (sym (ap (blank_nodes B at) (take_more ys i 0 h) ∙ each_append f (take i ys) (get_or ys i 0 ∷ [])))
+
+-- one item more, by what brought it in
+pub blank_step : (W : Book) (S : Sound W) (at : ℕ) (ys : List ℕ) (i : ℕ) (h : i < length ys) (b : Brought) → get_or ys i 0 < 32 → Brings (binarised W) (get_or ys i 0) b
+    → (ks : List Node) (k : Node) (zs : List ℕ) → k ≡ record { rule = b.number; first = at; count = 0 } → zs ≡ right_of W b.number
+    → ((ks ++ blank_nodes (binarised W) at (take i ys)) ++ (k ∷ [])) ++ blank_nodes (binarised W) at zs ≡ ks ++ blank_nodes (binarised W) at (take (i + 1) ys)
+blank_step W S at ys i h b l m ks k zs e r = blank_more (binarised W) at ys i h ks k (blank_nodes (binarised W) at zs)
+    (brought_nodes W S (get_or ys i 0) l b m at ∙ ap₂ (λ q z. q ∷ blank_nodes (binarised W) at z) (sym e) (sym r))

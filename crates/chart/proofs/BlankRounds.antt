@@ -1,6 +1,6 @@
 -- How many rounds it takes to find nullable symbols: the items of a chosen rule take fewer than its head.
 use Rattle.std.proofs.Common.{◌≡◌, ℕ, zero, suc, ◌<◌, ◌≤◌, max, true, false, cond, List, [], ◌∷◌, refl, inl, inr, arith}
-use Rattle.std.proofs.lemmas.Bool.{both_ways, cases_lt, cases_eq}
+use Rattle.std.proofs.lemmas.Bool.{both_ways, cases_lt}
 use Rattle.grammar.specs.Lists.{Mem}
 use Rattle.grammar.specs.Binarised.{Binarised, Bounded}
 use Rattle.grammar.specs.Nullable.{nullable_after}

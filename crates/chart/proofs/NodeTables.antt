@@ -1,5 +1,5 @@
 -- A table of nodes that is written one node after another, and what a table says that found no room for one.
-use Rattle.std.proofs.Common.{◌≡◌, ℕ, suc, ◌+◌, ◌<◌, ◌≤◌, min, true, false, cond, leb, ltb, List, [], ◌∷◌, ◌++◌, length, take, drop, set, sym, ap, ◌∙◌, ap₂, append_assoc, arith, length-append}
+use Rattle.std.proofs.Common.{◌≡◌, suc, ◌+◌, ◌-◌, ◌<◌, ◌≤◌, min, true, false, cond, ltb, List, [], ◌∷◌, ◌++◌, length, drop, set, sym, refl, ap, ◌∙◌, subst, ap₂, append_assoc, arith, length-append}
 use Rattle.std.proofs.Math.Seq.{drop-cons}
 use Rattle.std.proofs.lemmas.Bool.{le-ltb, lt-ltb, ltb-true, ltb-false, le-leb, lt-leb}
 use Rattle.std.proofs.lemmas.List.{length-map, map-set, set_at, take-append-le, take_all}
@@ -8,7 +8,7 @@ use Rattle.grammar.specs.Answers.{limit, filled, answer, number, refused}
 use Rattle.grammar.proofs.Tables.{tables}
 use Rattle.chart.specs.declared.node.Node.{Node}
 use Rattle.chart.specs.declared.node_table.NodeTable.{NodeTable}
-use Rattle.chart.specs.Nodes.{node_of, nodes_of, Wrote, SameTable}
+use Rattle.chart.specs.Nodes.{node_of, nodes_of, Wrote, room, SameTable}
 
 -- as long as there is room
 filled_fits : (ks t : List TreeNode) → length ks ≤ limit (length t) → filled ks t ≡ ks ++ drop (length ks) t
@@ -72,6 +72,14 @@ module _ (t ks : List TreeNode) (s : NodeTable) (w : Wrote t ks s) where
   pub answer_refused : s.full ≡ true → answer ks (length t) ≡ refused 13
   answer_refused h =
       ap (λ b. cond b (number (length ks)) (refused 13)) (lt-leb (length ks) (limit (length t)) (ltb-true (limit (length t)) (length ks) (sym w.full ∙ h)))
+
+-- a table that is not full has room
+pub room_left : (s : NodeTable) → s.full ≡ false → 0 < room s
+room_left s h = subst (λ b. 0 < limit (length s.nodes.now) - s.written + cond b 0 1) (sym h) (omega arith)
+
+-- a step that writes nothing
+pub same_none : (s : NodeTable) → SameTable s s
+same_none s = record { table = refl; long = refl; less = omega arith }
 
 -- one step after another
 pub same_then : (a b c : NodeTable) → SameTable a b → SameTable b c → SameTable a c

@@ -1,11 +1,12 @@
 // The nodes of parts without events.
 ghost use Rattle.std.specs.Prelude.{◌≡◌, ◌<◌, true, false, List, ◌++◌, MatchOption};
+ghost use Rattle.grammar.specs.Productions.{right_of};
 ghost use Rattle.grammar.specs.Binarise.{binarised};
 ghost use Rattle.grammar.specs.Nullable.{nullable, nullable_tree};
 ghost use Rattle.grammar.specs.Nodes.{Node as TreeNode, tree_nodes};
 ghost use Rattle.conversion.specs.Held.{Brings};
 ghost use Rattle.book.specs.Rules.{rules_book};
-ghost use Rattle.chart.specs.Nodes.{Wrote, SameTable};
+ghost use Rattle.chart.specs.Nodes.{node_of, Wrote, SameTable};
 ghost use Rattle.chart.specs.Blanks.{blank_nodes, AllBlank};
 
 use crate::node::Node;
@@ -27,6 +28,24 @@ fn brought_head(converted: &Converted, item: u8) -> Option<Brought>
     }
 }
 
+// The items of the rule that brought a symbol in.
+fn items_of(converted: &Converted, by: Brought) -> &[u8]
+    ensures { result.now ≡ right_of (rules_book converted.now.rules) by.number }
+{
+    converted.rules().right(by.number)
+}
+
+// The node of a rule over no event, with so many events before it.
+fn blank_node(number: u8, at: u16) -> Node
+    ensures { node_of result ≡ record { rule = number; first = at; count = 0 } }
+{
+    Node {
+        rule: number as u16,
+        first: at,
+        count: 0,
+    }
+}
+
 // Writes the nodes of the chosen derivations of nothing of these items, in turn: of each the node of its chosen rule, then those of that
 // rule's items. It ends where the table is full, whatever is left.
 pub(crate) fn write_blanks(converted: &Converted, items: &[u8], at: u16, table: &mut NodeTable<'_>)
@@ -38,12 +57,8 @@ pub(crate) fn write_blanks(converted: &Converted, items: &[u8], at: u16, table: 
             return;
         }
         if let Some(by) = brought_head(converted, *item) {
-            table.push(Node {
-                rule: by.number as u16,
-                first: at,
-                count: 0,
-            });
-            write_blanks(converted, converted.rules().right(by.number), at, table);
+            table.push(blank_node(by.number, at));
+            write_blanks(converted, items_of(converted, by), at, table);
         }
     }
 }

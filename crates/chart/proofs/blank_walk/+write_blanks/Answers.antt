@@ -1,4 +1,4 @@
-use Rattle.std.proofs.Common.{◌≡◌, ◌+◌, ◌<◌, ◌≤◌, [], ◌∷◌, ◌++◌, length, get_or, take, drop, sym, ap, ◌∙◌, subst, append_assoc, arith}
+use Rattle.std.proofs.Common.{◌≡◌, ◌<◌, ◌≤◌, ◌++◌, get_or, take, drop, sym, ap, ◌∙◌, subst, append_assoc, arith}
 use Rattle.std.proofs.lemmas.Bool.{both_ways}
 use Rattle.grammar.specs.Binarise.{binarised}
 use Rattle.grammar.specs.Productions.{right_of}
@@ -9,7 +9,7 @@ use Rattle.chart.proofs.OfBook.{rules_sound}
 use Rattle.chart.proofs.NodeTables.{wrote_full, same_then}
 use Rattle.chart.proofs.BlankRounds.{rounds_in, most_rounds, rounds_most}
 use Rattle.grammar.proofs.BinarisedRules.{get_d_mem}
-use Rattle.chart.proofs.BlankNodes.{brought_nodes, brought_blank, brought_fewer, blank_rest, blank_at, blank_more}
+use Rattle.chart.proofs.BlankNodes.{brought_blank, brought_fewer, blank_rest, blank_at, blank_step}
 use Rattle.chart.proofs.blank_walk.+write_blanks.Goals as goal
 use Rattle.chart.proofs.blank_walk.+write_blanks.Goals.{in-Some, in_default}
 
@@ -34,7 +34,7 @@ write_blanks-requires t c =
     let y = get_or ys i 0 in
     let fewer : most_rounds B (right_of W b.number) < rounds_in B B.symbols y = brought_fewer W (rules_sound rules) y h.0 b h.1 in
     let most : rounds_in B B.symbols y ≤ most_rounds B ys = rounds_most B y ys (get_d_mem ys i 0 (omega arith)) in
-    let same : most_rounds B c.right.result.now ≡ most_rounds B (right_of W b.number) = ap (most_rounds B) (c.right.ensures ∙ ap (λ r. right_of (rules_book r) b.number) c.rules.ensures) in
+    let same : most_rounds B c.items_of.result.now ≡ most_rounds B (right_of W b.number) = ap (most_rounds B) c.items_of.ensures in
     (omega (arith, c.decreases), tt)
 
 pub loop-item-preserved : goal.loop-item-preserved
@@ -45,26 +45,23 @@ loop-item-preserved m c = elim c.match-brought_head.branch [
       let B = binarised W in
       let S = rules_sound rules in
       let ys = c.args.items.now in
-      let at = c.args.at in
       let i = c.loop-item.item-index in
       let h = w.in-Some.ensures in
       let b = w.in-Some.by in
-      let y = get_or ys i 0 in
-      let r : w.right.result.now ≡ right_of W b.number = w.right.ensures ∙ ap (λ r. right_of (rules_book r) b.number) w.rules.ensures in
+      let r : w.items_of.result.now ≡ right_of W b.number = w.items_of.ensures in
+      let blank = subst (AllBlank B) (sym r) (brought_blank W S (get_or ys i 0) h.0 b h.1) in
       record {
         wrote = λ t ks all e.
-            let one = w.push.ensures.wrote t (ks ++ blank_nodes B at (take i ys)) (c.loop-item.invariant.wrote t ks all e) in
-            let rest = w.write_blanks.ensures.wrote t ((ks ++ blank_nodes B at (take i ys)) ++ (record { rule = b.number; first = at; count = 0 } ∷ [])) (subst (AllBlank B) (sym r) (brought_blank W S y h.0 b h.1)) one in
-            subst (λ s. Wrote t (ks ++ blank_nodes B at (take (i + 1) ys)) s) (sym w.table-is)
-            (subst (λ l. Wrote t l w.write_blanks.new.table)
-            (blank_more B at ys i (omega arith) ks (record { rule = b.number; first = at; count = 0 }) (blank_nodes B at w.right.result.now)
-            (brought_nodes W S y h.0 b h.1 at ∙ ap (λ q. record { rule = b.number; first = at; count = 0 } ∷ blank_nodes B at q) (sym r)))
-            rest);
+            let one = w.push.ensures.wrote t _ (c.loop-item.invariant.wrote t ks all e) in
+            let step = blank_step W S c.args.at ys i (omega arith) b h.0 h.1 ks _ _ w.blank_node.ensures r in
+            subst (Wrote t _) (sym w.table-is) (subst (λ l. Wrote t l w.write_blanks.new.table) step (w.write_blanks.ensures.wrote t _ blank one));
         same = subst (SameTable c.args.table.now) (sym w.table-is) (same_then _ _ _ c.loop-item.invariant.same (same_then _ _ _ w.push.ensures.same w.write_blanks.ensures.same));
       }
-  | in_default w ↦ record {
-    wrote = λ t ks all e. let a = blank_at (binarised (rules_book c.args.converted.now.rules)) c.args.at c.args.items.now c.loop-item.item-index (omega arith) all in
-        absurd (both_ways _ (w.in_default.ensures a.0) a.1);
-    same = subst (SameTable c.args.table.now) (sym w.table-is) c.loop-item.invariant.same;
-  }
+  | in_default w ↦
+      let B = binarised (rules_book c.args.converted.now.rules) in
+      let at = blank_at B c.args.at c.args.items.now c.loop-item.item-index (omega arith) in
+      record {
+        wrote = λ t ks all e. absurd (both_ways _ (w.in_default.ensures (at all).0) (at all).1);
+        same = subst (SameTable c.args.table.now) (sym w.table-is) c.loop-item.invariant.same;
+      }
 ]
