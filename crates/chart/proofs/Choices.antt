@@ -233,13 +233,13 @@ module _ (W : Book) (S : Sound W) (x : ℕ) (r : StrictFormRule) (m : Mem r (str
       by (Some Empty) n h = sym h
       by (Some (Steps k s)) n h = absurd (n k s refl)
 
-  module _ (k : ℕ) (s : UnitStep) (told : x < 128 → r.end < 128 → Chosen (binarised W) x r.end (Some (Steps k s))) where
-    chain_is : chosen_chain (binarised W) x r.end ≡ step_of s ∷ chosen_chain (binarised W) s.to r.end
-    chain_is =
-        let bounded = binarised_bounded W S in
-        let reach = (rule_facts (binarised W) x r m).1 in
-        shortest_chain (binarised W) bounded r.end (reached_mem (binarised W) bounded x r.end reach).0 x k s (chosen_there W S x r.end reach (Some (Steps k s)) told).1
+  pub a_step : (k : ℕ) (s : UnitStep) → (x < 128 → r.end < 128 → Chosen (binarised W) x r.end (Some (Steps k s))) → chosen_chain (binarised W) x r.end ≡ step_of s ∷ chosen_chain (binarised W) s.to r.end
+  a_step k s told =
+      let bounded = binarised_bounded W S in
+      let reach = (rule_facts (binarised W) x r m).1 in
+      shortest_chain (binarised W) bounded r.end (reached_mem (binarised W) bounded x r.end reach).0 x k s (chosen_there W S x r.end reach (Some (Steps k s)) told).1
 
+  module _ (s : UnitStep) (chain_is : chosen_chain (binarised W) x r.end ≡ step_of s ∷ chosen_chain (binarised W) s.to r.end) where
     chain_goes : UnitChain (binarised W) x (step_of s ∷ chosen_chain (binarised W) s.to r.end) r.end
     chain_goes = subst (λ c. UnitChain (binarised W) x c r.end) chain_is (chain_leads (binarised W) (binarised_bounded W S) x r.end (rule_facts (binarised W) x r m).1)
 

@@ -75,3 +75,11 @@ module _ (p : ℕ → Bool) where
       let k : 1 + (m - 1) ≡ m = omega arith in
       subst (λ (xs : List ℕ). First p xs m) (sym (ap (count_up 1) e ∙ count_up_append 1 (m - 1) (suc (n - m - 1))))
       (first_right p (count_up 1 (m - 1)) (count_up (1 + (m - 1)) (suc (n - m - 1))) m none (inl (ap p k ∙ t, sym k)))
+
+-- a test that asks a second one only where the first says yes
+
+pub both_asked : (p q a b : Bool) → p ≡ a → p ≡ true → q ≡ b → q ≡ (a && b)
+both_asked p q a b e t f = f ∙ sym (ap (λ c. c && b) (sym e ∙ t))
+
+pub first_asked : (p a b : Bool) → p ≡ a → p ≡ false → p ≡ (a && b)
+first_asked p a b e t = t ∙ sym (ap (λ c. c && b) (sym e ∙ t))

@@ -58,10 +58,6 @@ step_number B x n nothing t = refl
 step_number B x n (the_right z) t = refl
 step_number B x n (the_left z) t = refl
 
--- a table that is not full has room
-pub room_some : (s : NodeTable) → s.full ≡ false → 0 < room s
-room_some s e = subst (λ b. 0 < limit (length s.nodes.now) - s.written + cond b 0 1) (sym e) (omega arith)
-
 module _ (W : Book) (S : Sound W) where
   module _ {E : Type 0} (fits : E → ℕ → Bool) where
     pub taken_width : (x : ℕ) (s : Tree) (w : List E) → Takes (binarised W) fits x s w → width s ≡ length w

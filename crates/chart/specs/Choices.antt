@@ -1,11 +1,12 @@
 -- How the derivation taken goes on at a symbol, over a span of the events.
-use Rattle.std.specs.Prelude.{◌≡◌, ℕ, ◌+◌, ◌-◌, ◌<◌, Bool, false, List, Some, None, Option}
+use Rattle.std.specs.Prelude.{◌≡◌, ℕ, ◌+◌, ◌-◌, ◌<◌, Bool, false, List, ◌∷◌, Some, None, Option}
 use Rattle.grammar.specs.Lists.{First, Cut, some_of, cuts, span}
 use Rattle.grammar.specs.Binarised.{binary, terminal, Binarised, Has, Tree, fork, leaf}
-use Rattle.grammar.specs.Chains.{Leads}
+use Rattle.grammar.specs.Chains.{Leads, chosen_chain}
 use Rattle.grammar.specs.Strict.{strict_rules_of}
 use Rattle.grammar.specs.Taken.{step_over, yes_cell, rule_fits, cut_fits, Takes}
-use Rattle.conversion.specs.Views.{drop_of, strict_rule_of}
+use Rattle.conversion.specs.Views.{drop_of, step_of, strict_rule_of}
+use Rattle.conversion.specs.declared.chain.UnitStep.{UnitStep}
 use Rattle.conversion.specs.declared.strict.StrictRule.{StrictRule}
 use Rattle.grammar.specs.Binarise.{binarised}
 use Rattle.book.specs.declared.alphabet.Alphabet.{Ghosts}
@@ -44,6 +45,11 @@ FirstCut B fits y z es i n (Some m) = First (cut_fits B fits y z) (cuts (span es
 abbrev pub CutsInside : ℕ → Option ℕ → Type 0
 CutsInside n None = Unit {0}
 CutsInside n (Some m) = (0 < m) × (m < n)
+
+-- the first step of the chosen chain from x to y, or none where y is x
+abbrev pub FirstStep : Binarised → ℕ → ℕ → Option UnitStep → Type 0
+FirstStep B x y None = y ≡ x
+FirstStep B x y (Some u) = chosen_chain B x y ≡ step_of u ∷ chosen_chain B u.to y
 
 -- the number of a choice's production
 abbrev pub choice_number : Choice → ℕ

@@ -15,8 +15,8 @@ use Rattle.chart.specs.Nodes.{Wrote, room}
 use Rattle.chart.specs.Choices.{chart_rules, choice_number, ChoiceAt, ChoiceTaken}
 use Rattle.chart.specs.Writing.{RuleOver, Stands, below_root}
 use Rattle.chart.proofs.OfBook.{book_sound}
-use Rattle.chart.proofs.NodeTables.{wrote_full}
-use Rattle.chart.proofs.Writing.{leaf_below, unit_below, right_below, left_below, fork_below, tail_below, taken_root, taken_yes, pattern_nodes, head_chosen, choice_over, over_some, tail_over, step_small, fork_small, over_unit, over_binary, over_blank, over_left, room_some, right_short}
+use Rattle.chart.proofs.NodeTables.{wrote_full, room_left}
+use Rattle.chart.proofs.Writing.{leaf_below, unit_below, right_below, left_below, fork_below, tail_below, taken_root, taken_yes, pattern_nodes, head_chosen, choice_over, over_some, tail_over, step_small, fork_small, over_unit, over_binary, over_blank, over_left, right_short}
 use Rattle.grammar.specs.Binarise.{binarised}
 use Rattle.book.specs.Rules.{rules_book}
 use Rattle.book.specs.declared.converted.Converted.{Converted}
@@ -206,7 +206,7 @@ write_symbol-write_parts-requires g t c κs within =
     let n = c.number-rule.result in
     let right : c.right-right.result.now ≡ right_of W n = c.right-right.ensures ∙ ap (λ r. right_of (rules_book r) n) c.rules.ensures in
     let short : length c.right-right.result.now ≤ 8 = subst (λ l. length l ≤ 8) (sym right) (right_short W S n) in
-    let some : 0 < room c.args.table.now = room_some c.args.table.now c.if-table.false in
+    let some : 0 < room c.args.table.now = room_left c.args.table.now c.if-table.false in
     (omega (arith, c.decreases, c.push.ensures.room), (within.0, (within.1.0, (within.1.1, ((c.args.symbol, c.in-Some.ensures.at), c.requires.part)))))
 
 pub write_symbol-write_parts-requires-else-symbol-lt-HEADS : goal.write_symbol-write_parts-requires-else-symbol-lt-HEADS

@@ -1,5 +1,4 @@
-use Rattle.std.proofs.Common.{◌+◌, ◌&&◌, length, sym, ap, ◌∙◌, subst, arith}
-use Rattle.std.proofs.lemmas.Bool.{eq-eqb, ne_eqb}
+use Rattle.std.proofs.Common.{◌+◌, ◌≤◌, ◌<◌, ◌&&◌, eqb, length, sym, ap, ◌∙◌, subst, arith}
 use Rattle.grammar.specs.Lists.{span}
 use Rattle.grammar.specs.Taken.{yes_cell}
 use Rattle.grammar.specs.Binarise.{binarised, Within}
@@ -9,26 +8,17 @@ use Rattle.chart.specs.Events.{chart_book, chart_fits}
 use Rattle.chart.specs.Choices.{chart_rules}
 use Rattle.chart.proofs.OfBook.{book_sound}
 use Rattle.chart.proofs.Choices.{symbols_least, strict_right, terminal_fits_one, binary_fits, found_fits}
-use Rattle.chart.proofs.choice.fits.Goals as goal
+use Rattle.chart.proofs.choice.rule_fits.Goals as goal
 
-pub overflow_add-t : goal.overflow_add-t
-overflow_add-t g c =
-    let k = c.args.chart.now in
-    let W = chart_book k in
-    let S = book_sound k.book.now in
-    let t = subst (Within (binarised W).symbols W.patterns) (ap right_side_of c.in-Terminal.is) (strict_right W S (strict_rule_of c.args.rule) c.requires.rule) in
-    let few = S.few_patterns in
-    omega arith
-
-pub derives-requires-clause-symbol : goal.derives-requires-clause-symbol
-derives-requires-clause-symbol g c =
+pub pattern_fits-requires-clause-pattern : goal.pattern_fits-requires-clause-pattern
+pattern_fits-requires-clause-pattern g c =
     let k = c.args.chart.now in
     let W = chart_book k in
     let S = book_sound k.book.now in
     let t = subst (Within (binarised W).symbols W.patterns) (ap right_side_of c.in-Terminal.is) (strict_right W S (strict_rule_of c.args.rule) c.requires.rule) in
     let few = S.few_patterns in
     let least = symbols_least W in
-    omega arith
+    (omega arith, omega arith)
 
 pub first_cut-requires-clause-symbols : goal.first_cut-requires-clause-symbols
 first_cut-requires-clause-symbols g c =
@@ -36,8 +26,8 @@ first_cut-requires-clause-symbols g c =
     let W = chart_book k in
     subst (Within (binarised W).symbols W.patterns) (ap right_side_of c.in-Binary.is) (strict_right W (book_sound k.book.now) (strict_rule_of c.args.rule) c.requires.rule)
 
-pub returns-then-count-eq1 : goal.returns-then-count-eq1
-returns-then-count-eq1 g c test es h =
+pub returns-in-Terminal : goal.returns-in-Terminal
+returns-in-Terminal g c test es h =
     let k = c.args.chart.now in
     let W = chart_book k in
     let S = book_sound k.book.now in
@@ -47,23 +37,7 @@ returns-then-count-eq1 g c test es h =
     let w = span es a.start a.count in
     let long = span_length es a.start a.count (omega (arith, h.many, c.requires.part)) in
     let pattern = subst (Within (binarised W).symbols W.patterns) q (strict_right W S (strict_rule_of a.rule) c.requires.rule) in
-    c.derives.ensures test es h ∙ ap (λ n. yes_cell (chart_rules k) (chart_fits test k) (32 + t) (span es a.start n)) (sym c.if-count-eq1.true)
-    ∙ ap (λ b. b && yes_cell (chart_rules k) (chart_fits test k) (32 + t) w) (sym (eq-eqb (length w) 1 (long ∙ c.if-count-eq1.true)))
-    ∙ sym (terminal_fits_one W S (chart_fits test k) t pattern w (strict_rule_of a.rule) q)
-
-pub returns-else-count-eq1 : goal.returns-else-count-eq1
-returns-else-count-eq1 g c test es h =
-    let k = c.args.chart.now in
-    let W = chart_book k in
-    let S = book_sound k.book.now in
-    let a = c.args in
-    let t = c.in-Terminal.t in
-    let q = ap right_side_of c.in-Terminal.is in
-    let w = span es a.start a.count in
-    let long = span_length es a.start a.count (omega (arith, h.many, c.requires.part)) in
-    let pattern = subst (Within (binarised W).symbols W.patterns) q (strict_right W S (strict_rule_of a.rule) c.requires.rule) in
-    ne_eqb a.count 1 c.if-count-eq1.false
-    ∙ ap (λ b. b && yes_cell (chart_rules k) (chart_fits test k) (32 + t) w) (sym (ne_eqb (length w) 1 (λ e. c.if-count-eq1.false (sym long ∙ e))))
+    c.pattern_fits.ensures test es h ∙ ap (λ n. eqb n 1 && yes_cell (chart_rules k) (chart_fits test k) (32 + t) w) (sym long)
     ∙ sym (terminal_fits_one W S (chart_fits test k) t pattern w (strict_rule_of a.rule) q)
 
 pub returns-in-Binary : goal.returns-in-Binary
