@@ -5,7 +5,7 @@ ghost use Rattle.grammar.specs.Binarised.{Tree};
 ghost use Rattle.grammar.specs.Nodes.{Node as TreeNode, tree_nodes};
 ghost use Rattle.grammar.specs.Taken.{Takes};
 ghost use Rattle.chart.specs.Events.{chart_symbols};
-ghost use Rattle.chart.specs.Nodes.{Wrote, SameTable};
+ghost use Rattle.chart.specs.Nodes.{node_of, Wrote, SameTable};
 ghost use Rattle.chart.specs.Choices.{chart_rules, ForHeld, choice_number, ChoiceAt, ChoiceTaken};
 ghost use Rattle.chart.specs.Writing.{RuleOver, Stands, below_root};
 
@@ -23,6 +23,18 @@ const HEADS: u8 = 32;
 
 // Symbols from this on are tails; those between are the patterns' own.
 const TAILS: u8 = 64;
+
+// The node of a production over so many events from a start on.
+fn node(number: u8, start: usize, count: usize) -> Node
+    requires { start + count ≤ 256 }
+    ensures { node_of result ≡ record { rule = number; first = start; count = count } }
+{
+    Node {
+        rule: number as u16,
+        first: start as u16,
+        count: count as u16,
+    }
+}
 
 // Writes the nodes of the derivation taken from a symbol over so many events from a start on: for a head its node, then those below;
 // for a tail those below, which are those of the items that it stands for; for a pattern none. It ends where the table is full.
@@ -49,11 +61,7 @@ pub(crate) fn write_symbol<A: Alphabet>(
     if let Some(choice) = choose(chart, symbol, start, count) {
         if symbol < HEADS {
             let rule = choice.number();
-            table.push(Node {
-                rule: rule as u16,
-                first: start as u16,
-                count: count as u16,
-            });
+            table.push(node(rule, start, count));
             let right = chart.book.rules().right(rule);
             write_parts(chart, right, choice, start, count, table);
         } else {

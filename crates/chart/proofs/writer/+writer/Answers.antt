@@ -224,7 +224,7 @@ write_symbol-returns-then-symbol-lt-HEADS-clause-wrote g t c t' ks stands test e
     let right : c.right-right.result.now ≡ right_of W n = c.right-right.ensures ∙ ap (λ r. right_of (rules_book r) n) c.rules.ensures in
     let long = span_length es a.start a.count (omega (arith, h.many, c.requires.part)) in
     let node : TreeNode = record { rule = n; first = a.start; count = a.count } in
-    let pushed = c.push.ensures.wrote t' ks wrote in
+    let pushed = subst (λ n. Wrote t' (ks ++ (n ∷ [])) c.push.new.self) c.node.ensures (c.push.ensures.wrote t' ks wrote) in
     let over = choice_over W S a.symbol a.count choice c.if-symbol-lt-HEADS.true c.in-Some.ensures.at in
     let below = c.write_parts.ensures.wrote t' (ks ++ (node ∷ [])) a.symbol c.in-Some.ensures.at
     (subst (RuleOver (chart_rules k) a.symbol (choice_number choice)) (ap (right_of W) (sym c.number-rule.ensures) ∙ sym right) over) test es h s taken (c.in-Some.ensures.taken test es h) pushed in
