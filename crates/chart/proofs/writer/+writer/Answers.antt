@@ -124,7 +124,7 @@ write_parts-returns-in-Right-clause-wrote g t c t' ks x at over test es h s take
     let first = c.write_symbol-in-Right.ensures.wrote t' ks (inl (over_binary W S x u.number a.items.now below u.to z leads.0).0) test es h step_taken.0 step_taken.1 wrote in
     let second = subst (λ (q : Converted). AllBlank (binarised (rules_book q.rules)) c.in-Some.rest.now
     → Wrote t' ((ks ++ tree_nodes a.start step_taken.0) ++ blank_nodes (binarised (rules_book q.rules)) (a.start + a.count) c.in-Some.rest.now) c.write_blanks.new.table)
-    c.converted-converted.ensures (λ all. c.write_blanks.ensures.wrote t' (ks ++ tree_nodes a.start step_taken.0) all first) (subst (AllBlank B) rest blank.1) in
+    c.converted-converted.ensures (λ all. assumption (c.write_blanks.ensures.wrote t' (ks ++ tree_nodes a.start step_taken.0) all first)) (subst (AllBlank B) rest blank.1) in
     subst (λ l. Wrote t' l c.write_blanks.new.table)
     (joined ks (tree_nodes a.start step_taken.0) (blank_nodes B (a.start + a.count) c.in-Some.rest.now) (below_root a.start s)
     (right_below W S fits x u.number a.start s step_taken.0 w taken u.to z a.count step_taken.1 (span_length es a.start a.count (omega (arith, h.many, c.requires.part))) whole
@@ -224,7 +224,7 @@ write_symbol-returns-then-symbol-lt-HEADS-clause-wrote g t c t' ks stands test e
     let right : c.right-right.result.now ≡ right_of W n = c.right-right.ensures ∙ ap (λ r. right_of (rules_book r) n) c.rules.ensures in
     let long = span_length es a.start a.count (omega (arith, h.many, c.requires.part)) in
     let node : TreeNode = record { rule = n; first = a.start; count = a.count } in
-    let pushed = subst (λ n. Wrote t' (ks ++ (n ∷ [])) c.push.new.self) c.node.ensures (c.push.ensures.wrote t' ks wrote) in
+    let pushed : Wrote t' (ks ++ (node ∷ [])) c.push.new.self = assumption (subst (λ n. Wrote t' (ks ++ (n ∷ [])) c.push.new.self) c.node.ensures (c.push.ensures.wrote t' ks wrote)) in
     let over = choice_over W S a.symbol a.count choice c.if-symbol-lt-HEADS.true c.in-Some.ensures.at in
     let below = c.write_parts.ensures.wrote t' (ks ++ (node ∷ [])) a.symbol c.in-Some.ensures.at
     (subst (RuleOver (chart_rules k) a.symbol (choice_number choice)) (ap (right_of W) (sym c.number-rule.ensures) ∙ sym right) over) test es h s taken (c.in-Some.ensures.taken test es h) pushed in
