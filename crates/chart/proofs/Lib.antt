@@ -16,6 +16,9 @@ pub mod Totalling
 pub mod ByKind
 pub mod SameColumns
 pub mod Running
+pub mod Firsts
+pub mod Choices
 pub mod BlankRounds
 pub mod BlankNodes
 pub mod NodeTables
+pub mod Writing

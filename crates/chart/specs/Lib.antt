@@ -8,5 +8,7 @@ pub mod Feeds
 pub mod Runs
 pub mod Totals
 pub mod Columns
+pub mod Choices
 pub mod Blanks
 pub mod Nodes
+pub mod Writing

@@ -26,9 +26,9 @@ pub const EVENTS: usize = 256;
 // The events themselves are not stored: the table holds the weight of each symbol over each part of them.
 #[derive(Drop)]
 pub struct Chart<'b, 'p, 't, A: Alphabet, W: Weighing> {
-    book: &'b ClosedBook<'p, A>,
-    weights: &'t mut [W::Value],
-    events: usize,
+    pub(crate) book: &'b ClosedBook<'p, A>,
+    pub(crate) weights: &'t mut [W::Value],
+    pub(crate) events: usize,
     ghost few: { events ≤ 256 },
 }
 
