@@ -22,3 +22,4 @@ pub mod BlankRounds
 pub mod BlankNodes
 pub mod NodeTables
 pub mod Writing
+pub mod ReadingTaken

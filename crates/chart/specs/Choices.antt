@@ -12,7 +12,7 @@ use Rattle.grammar.specs.Binarise.{binarised}
 use Rattle.book.specs.declared.alphabet.Alphabet.{Ghosts}
 use Rattle.weighing.specs.declared.weighing.Weighing.{Ghosts as Weighings}
 use Rattle.weighing.specs.declared.bank.Bank.{Ghosts as Banks}
-use Rattle.weighing.specs.Values.{yes_no_ops}
+use Rattle.grammar.specs.Weighings.{yes_no}
 use Rattle.chart.specs.declared.chart.Chart.{Chart}
 use Rattle.chart.specs.Events.{Holds, chart_book, chart_fits}
 use Rattle.chart.specs.declared.choice.Choice.{Choice}
@@ -25,7 +25,7 @@ chart_rules c = binarised (chart_book c)
 -- for every test of patterns, and all events that a yes/no chart holds by it
 abbrev pub ForHeld : {A K E P U : Type 0} {G : Ghosts A E P} {H : Weighings K Bool U} {B : Banks U Bool} → Chart A K E P Bool U G H B
     → ((E → ℕ → Bool) → List E → Type 0) → Type 0
-ForHeld c X = (test : _ → _ → Bool) (es : List _) → Holds yes_no_ops test c es → X (chart_fits test c) es
+ForHeld c X = (test : _ → _ → Bool) (es : List _) → Holds yes_no test c es → X (chart_fits test c) es
 
 -- the first strict rule of x that fits w, if there is one
 abbrev pub FirstRule : {E : Type 0} → Binarised → (E → ℕ → Bool) → ℕ → List E → Option StrictRule → Type 0

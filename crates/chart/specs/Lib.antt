@@ -12,3 +12,4 @@ pub mod Choices
 pub mod Blanks
 pub mod Nodes
 pub mod Writing
+pub mod Readings

@@ -15,6 +15,7 @@ mod node_table;
 mod nullable;
 mod pairs;
 pub mod part;
+pub mod reading;
 mod strict;
 pub mod totals;
 mod weighed;

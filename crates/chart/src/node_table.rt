@@ -1,8 +1,10 @@
 // The caller's table of nodes, written from its beginning.
-ghost use Rattle.std.specs.Prelude.{◌≡◌, ◌-◌, List, [], ◌∷◌, ◌++◌};
+ghost use Rattle.std.specs.Prelude.{◌≡◌, ◌-◌, List, [], ◌∷◌, ◌++◌, length};
+ghost use Rattle.grammar.specs.Answers.{answer};
 ghost use Rattle.grammar.specs.Nodes.{Node as TreeNode};
 ghost use Rattle.chart.specs.Nodes.{node_of, nodes_of, Wrote, room, SameTable};
 
+use crate::fault::ReadingFault;
 use crate::node::Node;
 
 // So many nodes are written at most.
@@ -17,6 +19,8 @@ pub(crate) struct NodeTable<'n> {
 }
 
 impl<'n> NodeTable<'n> {
+    ghost use Rattle.chart.specs.Readings.{reading_answer};
+
     // Nothing is written yet, and the table is left as it is.
     pub(crate) fn of(nodes: &'n mut [Node]) -> NodeTable<'n>
         ensures wrote { Wrote (nodes_of nodes.old) [] result }
@@ -43,5 +47,15 @@ impl<'n> NodeTable<'n> {
         } else {
             self.full = true;
         }
+    }
+
+    // How many nodes there are, or the refusal where one found no room.
+    pub(crate) fn answer(&self) -> Result<Option<usize>, ReadingFault>
+        ensures { (t ks : List TreeNode) → Wrote t ks self.now → reading_answer result ≡ answer ks (length t) }
+    {
+        if self.full {
+            return Err(ReadingFault::TooManyNodes);
+        }
+        Ok(Some(self.written))
     }
 }

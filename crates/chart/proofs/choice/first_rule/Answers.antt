@@ -2,7 +2,7 @@ use Rattle.std.proofs.Common.{sym, ◌∙◌}
 use Rattle.std.proofs.lemmas.Bool.{and_parts}
 use Rattle.grammar.specs.Lists.{span}
 use Rattle.grammar.specs.Taken.{rule_fits}
-use Rattle.weighing.specs.Values.{yes_no_ops}
+use Rattle.grammar.specs.Weighings.{yes_no}
 use Rattle.chart.specs.Events.{chart_book, chart_fits}
 use Rattle.chart.specs.Choices.{chart_rules}
 use Rattle.chart.proofs.StrictWeights.{strict_in}
@@ -11,12 +11,12 @@ use Rattle.chart.proofs.choice.first_rule.Goals as goal
 
 pub fits_at-requires-clause-rule : goal.fits_at-requires-clause-rule
 fits_at-requires-clause-rule g c =
-    strict_in yes_no_ops (chart_book c.args.chart.now) c.strict-rule-items.result.now (rw c.converted.ensures at c.strict-rule-items.ensures) c.loop-rule.rule-index _ c.loop-rule-test.true
+    strict_in yes_no (chart_book c.args.chart.now) c.strict-rule-items.result.now (rw c.converted.ensures at c.strict-rule-items.ensures) c.loop-rule.rule-index _ c.loop-rule-test.true
 
 pub returns-then-fits_at-clause-rule : goal.returns-then-fits_at-clause-rule
 returns-then-fits_at-clause-rule g c =
     rule_of_symbol (chart_rules c.args.chart.now) c.args.symbol _
-    (strict_in yes_no_ops (chart_book c.args.chart.now) c.strict-rule-items.result.now (rw c.converted.ensures at c.strict-rule-items.ensures) c.loop-rule.rule-index _ c.loop-rule-test.true)
+    (strict_in yes_no (chart_book c.args.chart.now) c.strict-rule-items.result.now (rw c.converted.ensures at c.strict-rule-items.ensures) c.loop-rule.rule-index _ c.loop-rule-test.true)
     (c.fits_at.ensures.symbol c.if-fits_at.true)
 
 pub returns-then-fits_at-clause-first : goal.returns-then-fits_at-clause-first
