@@ -1,5 +1,5 @@
 -- What stands below a choice, and the nodes of the derivation that it takes.
-use Rattle.std.proofs.Common.{◌≡◌, ℕ, zero, suc, ◌+◌, ◌-◌, ◌<◌, ◌≤◌, Bool, true, false, cond, ltb, Some, List, [], ◌∷◌, ◌++◌, length, drop, get_or, sym, refl, ap, ◌∙◌, subst, ap₂, inl, inr, true≢false, arith}
+use Rattle.std.proofs.Common.{◌≡◌, ℕ, zero, suc, ◌+◌, ◌<◌, ◌≤◌, Bool, true, false, ltb, Some, List, [], ◌∷◌, ◌++◌, length, drop, get_or, sym, refl, ap, ◌∙◌, subst, ap₂, inl, inr, true≢false, arith}
 use Rattle.std.proofs.lemmas.Bool.{lt-ltb, le-ltb, cond-true, cond-false}
 use Rattle.std.proofs.lemmas.List.{append-nil}
 use Rattle.grammar.specs.Lists.{Mem, span}
@@ -19,9 +19,6 @@ use Rattle.conversion.specs.Views.{drop_of}
 use Rattle.chart.specs.declared.choice.Choice.{Choice}
 use Rattle.chart.specs.declared.choice.Choice.TheVariants.{Step, Leaf, Fork}
 use Rattle.chart.specs.Choices.{choice_number, ChoiceAt, ChoiceTaken}
-use Rattle.grammar.specs.Answers.{limit}
-use Rattle.chart.specs.declared.node_table.NodeTable.{NodeTable}
-use Rattle.chart.specs.Nodes.{room}
 use Rattle.chart.specs.Blanks.{blank_nodes, AllBlank}
 use Rattle.chart.specs.Writing.{RuleOver, Stands, below_root}
 use Rattle.chart.proofs.BlankNodes.{first_right, first_pair, blank_width, tail_nodes, nullable_head, item_below}

@@ -1,4 +1,4 @@
-use Rattle.std.proofs.Common.{◌+◌, ◌≤◌, ◌<◌, ◌&&◌, eqb, length, sym, ap, ◌∙◌, subst, arith}
+use Rattle.std.proofs.Common.{◌+◌, ◌&&◌, eqb, sym, ap, ◌∙◌, subst, arith}
 use Rattle.grammar.specs.Lists.{span}
 use Rattle.grammar.specs.Taken.{yes_cell}
 use Rattle.grammar.specs.Binarise.{binarised, Within}
