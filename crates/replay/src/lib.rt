@@ -7,4 +7,5 @@ mod book_run;
 pub mod call;
 mod chart_run;
 pub mod fault;
+pub mod reading;
 pub mod replay;
