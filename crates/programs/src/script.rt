@@ -2,6 +2,7 @@
 ghost use Rattle.std.specs.Prelude.{◌≡◌, ◌<◌, length, IfOk, string_bytes, codes};
 
 pub mod fault;
+mod print;
 mod read;
 mod run;
 mod spelled;

@@ -3,9 +3,9 @@ ghost use Rattle.std.specs.Prelude.{◌≡◌, ◌≢◌, ◌+◌, ◌↔◌, le
 ghost use Rattle.grammar.specs.Weighings.{yes_no};
 ghost use Rattle.book.specs.Fits.{table_fits, TestsTable};
 ghost use Rattle.chart.specs.Charts.{HoldsChart};
+ghost use Rattle.chart.specs.Totals.{Explained};
 ghost use Rattle.chart.specs.Nodes.{nodes_of};
 ghost use Rattle.chart.specs.Readings.{reading_answer, ReadingIs};
-ghost use Rattle.chart.specs.Totals.{Explained, TotalIs};
 ghost use Rattle.replay.specs.Answers.{said};
 ghost use Rattle.replay.specs.Replays.{replayed_book, replayed_events, replayed_answers};
 
@@ -23,14 +23,14 @@ use chart::reading::reading;
 use chart::totals::explained;
 use weighing::kinds::YesNo;
 
-// Whether there is a reading of the events held, and what the call for it answered.
+// Whether there is a reading of the events held, and how many nodes the one taken has, or the refusal of the call for it.
 #[derive(Clone, Copy, Debug, PartialEq, Eq)]
 pub struct Replayed {
-    pub explained: bool,
+    pub verdict: bool,
     pub reading: Result<Option<usize>, ReadingFault>,
 }
 
-// Makes the same calls as `replay` on a yes/no chart, and then writes the nodes of the reading of the events held into the caller's table.
+// Makes the calls as `replay` does, by yes and no, and writes the nodes of the reading taken of the events then held into the caller's table.
 pub fn replay_reading<A: Alphabet>(
     table: PatternTable<A>,
     book_calls: &[BookCall],
@@ -39,9 +39,9 @@ pub fn replay_reading<A: Alphabet>(
     answers: &mut [Answer],
     nodes: &mut [Node],
 ) -> Result<Replayed, ReplayFault>
-    ensures total { IfOk result (λ r. TotalIs (replayed_book table.entry.patterns.now book_calls.now) yes_no (table_fits A.Alphabet.test table.entry.patterns.now) (replayed_events table.entry.patterns.now book_calls.now (length weights.old) chart_calls.now) r.explained) }
-    ensures explained { IfOk result (λ r. Explained (replayed_book table.entry.patterns.now book_calls.now) (table_fits A.Alphabet.test table.entry.patterns.now) (replayed_events table.entry.patterns.now book_calls.now (length weights.old) chart_calls.now) r.explained) }
+    ensures explained { IfOk result (λ r. Explained (replayed_book table.entry.patterns.now book_calls.now) (table_fits A.Alphabet.test table.entry.patterns.now) (replayed_events table.entry.patterns.now book_calls.now (length weights.old) chart_calls.now) r.verdict) }
     ensures reading { IfOk result (λ r. ReadingIs (replayed_book table.entry.patterns.now book_calls.now) (table_fits A.Alphabet.test table.entry.patterns.now) (replayed_events table.entry.patterns.now book_calls.now (length weights.old) chart_calls.now) (nodes_of nodes.old) (reading_answer r.reading) (nodes_of nodes.new)) }
+    ensures chart { IfOk result (λ _. HoldsChart (replayed_book table.entry.patterns.now book_calls.now) yes_no (table_fits A.Alphabet.test table.entry.patterns.now) (replayed_events table.entry.patterns.now book_calls.now (length weights.old) chart_calls.now) weights.new) }
     ensures answers { IfOk result (λ _. map said answers.new ≡ replayed_answers table.entry.patterns.now book_calls.now (length weights.old) chart_calls.now) }
     ensures refused { IsErr result ↔ (length answers.old ≢ length book_calls.now + length chart_calls.now) }
     ensures stands { IsErr result → (answers.new ≡ answers.old) × (weights.new ≡ weights.old) × (nodes.new ≡ nodes.old) }
@@ -52,7 +52,7 @@ pub fn replay_reading<A: Alphabet>(
     let book = run_book(table, book_calls, front);
     let chart = run_chart::<A, YesNo>(&book, weights, chart_calls, back);
     Ok(Replayed {
-        explained: explained(&chart),
+        verdict: explained(&chart),
         reading: reading(&chart, nodes),
     })
 }

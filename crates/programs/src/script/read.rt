@@ -22,11 +22,7 @@ pub(crate) struct Part<'t> {
 // A call of the book, as a line says it.
 #[derive(Drop)]
 pub(crate) enum BookLine<'t> {
-    Offer {
-        head: u8,
-        items: Vec<u8>,
-        cost: u16,
-    },
+    Offer { head: u8, items: Vec<u8>, cost: u16 },
     Load(&'t [u8]),
     Strike,
 }
@@ -46,12 +42,25 @@ impl<'t> BookLine<'t> {
     }
 }
 
+// What is asked of a chart.
+#[derive(Clone, Copy)]
+pub(crate) enum Question {
+    Total,
+    Reading,
+}
+
 // A call of the chart, or what is asked of it.
 #[derive(Clone, Copy)]
 pub(crate) enum ChartLine<E> {
     Call(ChartCall<E>),
-    Total,
-    Reading,
+    Ask(Question),
+}
+
+// How many weights and nodes the tables have.
+#[derive(Clone, Copy)]
+pub(crate) struct Sizes {
+    pub(crate) weights: usize,
+    pub(crate) nodes: usize,
 }
 
 // What the lines say.
@@ -59,8 +68,7 @@ pub(crate) enum ChartLine<E> {
 pub(crate) struct Script<'t, A: Spelled> {
     pub(crate) patterns: Vec<A::Pattern>,
     pub(crate) book: Vec<BookLine<'t>>,
-    pub(crate) weights: usize,
-    pub(crate) nodes: usize,
+    pub(crate) sizes: Sizes,
     pub(crate) chart: Vec<ChartLine<A::Event>>,
 }
 
@@ -175,12 +183,7 @@ impl<'t, A: Spelled> Reader<'t, A> {
     }
 
     // Takes in what a line says: whether its words are those that it wants.
-    fn says(
-        &mut self,
-        first: First,
-        line: Line<'t>,
-        words: &[&[u8]],
-    ) -> Result<bool, AllocError> {
+    fn says(&mut self, first: First, line: Line<'t>, words: &[&[u8]]) -> Result<bool, AllocError> {
         match first {
             First::Patterns => A::add_patterns(&mut self.script.patterns, words),
             First::Offer => self.offer(words),
@@ -189,8 +192,8 @@ impl<'t, A: Spelled> Reader<'t, A> {
             First::Weights | First::Nodes => Ok(self.size(first, words)),
             First::Feed => self.feed(words),
             First::Withdraw => self.withdraw(words),
-            First::Total => self.ask(ChartLine::Total, words),
-            First::Reading => self.ask(ChartLine::Reading, words),
+            First::Total => self.ask(Question::Total, words),
+            First::Reading => self.ask(Question::Reading, words),
         }
     }
 
@@ -226,14 +229,18 @@ impl<'t, A: Spelled> Reader<'t, A> {
 
     // The size of a table.
     fn size(&mut self, first: First, words: &[&[u8]]) -> bool {
-        let limit = if first == First::Nodes { NODES } else { WEIGHTS };
+        let limit = if first == First::Nodes {
+            NODES
+        } else {
+            WEIGHTS
+        };
         let Some(size) = one_number(words, limit) else {
             return false;
         };
         if first == First::Nodes {
-            self.script.nodes = size;
+            self.script.sizes.nodes = size;
         } else {
-            self.script.weights = size;
+            self.script.sizes.weights = size;
         }
         true
     }
@@ -253,11 +260,11 @@ impl<'t, A: Spelled> Reader<'t, A> {
     }
 
     // What is asked takes no words.
-    fn ask(&mut self, line: ChartLine<A::Event>, words: &[&[u8]]) -> Result<bool, AllocError> {
+    fn ask(&mut self, question: Question, words: &[&[u8]]) -> Result<bool, AllocError> {
         if !words.is_empty() {
             return Ok(false);
         }
-        self.chart_line(line)
+        self.chart_line(ChartLine::Ask(question))
     }
 
     fn chart_line(&mut self, line: ChartLine<A::Event>) -> Result<bool, AllocError> {
@@ -278,8 +285,10 @@ pub(crate) fn read<'t, A: Spelled>(
         script: Script {
             patterns: Vec::new(heap),
             book: Vec::new(heap),
-            weights: 0,
-            nodes: 0,
+            sizes: Sizes {
+                weights: 0,
+                nodes: 0,
+            },
             chart: Vec::new(heap),
         },
     };

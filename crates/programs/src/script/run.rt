@@ -1,12 +1,16 @@
-// A script as it is run: the answer to each call, and what is asked on the way. Each total is that of a replay of all calls up to its line.
+// A script as it is run: the answer to each call, and what is asked on the way. Each total and each reading is that of a replay of all calls
+// up to its line.
 use crate::script::fault::ScriptFault;
-use crate::script::read::{BookLine, ChartLine, Script};
+use crate::script::print::push_reading;
+use crate::script::read::{BookLine, ChartLine, Question, Script, Sizes};
 use crate::script::spelled::Spelled;
 use crate::totals::{Totals, Verdict};
 use book::alphabet::Alphabet;
 use book::table::PatternTable;
+use chart::node::Node;
 use replay::answer::Answer;
 use replay::call::{BookCall, ChartCall};
+use replay::reading::{Replayed, replay_reading};
 use replay::replay::replay;
 use std::alloc::{AllocError, Global};
 use weighing::kinds::{Count, LeastCost, YesNo};
@@ -35,14 +39,8 @@ impl<'c, A: Alphabet> Calls<'c, A> {
         answers: &mut [Answer],
     ) -> Result<W::Value, ScriptFault> {
         let table = PatternTable::<A>::check(self.patterns)?;
-        let mut table_of_weights = vec![in heap; W::zero(); weights]?;
-        Ok(replay::<A, W>(
-            table,
-            self.book,
-            self.chart,
-            &mut table_of_weights,
-            answers,
-        )?)
+        let mut weights = vec![in heap; W::zero(); weights]?;
+        Ok(replay::<A, W>(table, self.book, self.chart, &mut weights, answers)?)
     }
 
     // The totals by the three weighings.
@@ -51,8 +49,30 @@ impl<'c, A: Alphabet> Calls<'c, A> {
         Ok(Totals {
             verdict: Verdict(self.total::<YesNo>(heap, weights, &mut answers)?),
             count: self.total::<Count>(heap, weights, &mut answers)?.value(),
-            least: self.total::<LeastCost>(heap, weights, &mut answers)?.value(),
+            least: self
+                .total::<LeastCost>(heap, weights, &mut answers)?
+                .value(),
         })
+    }
+
+    // The reading taken, its nodes in a table.
+    fn reading(
+        &self,
+        heap: Global,
+        weights: usize,
+        nodes: &mut [Node],
+    ) -> Result<Replayed, ScriptFault> {
+        let table = PatternTable::<A>::check(self.patterns)?;
+        let mut answers = self.places(heap)?;
+        let mut weights = vec![in heap; YesNo::zero(); weights]?;
+        Ok(replay_reading::<A>(
+            table,
+            self.book,
+            self.chart,
+            &mut weights,
+            &mut answers,
+            nodes,
+        )?)
     }
 
     // The answers.
@@ -60,6 +80,30 @@ impl<'c, A: Alphabet> Calls<'c, A> {
         let mut answers = self.places(heap)?;
         self.total::<YesNo>(heap, weights, &mut answers)?;
         Ok(answers)
+    }
+
+    // Adds what is asked after these calls.
+    fn push_asked(
+        &self,
+        heap: Global,
+        out: &mut String,
+        question: Question,
+        sizes: Sizes,
+    ) -> Result<(), ScriptFault> {
+        match question {
+            Question::Total => writeln!(out, "{}", self.totals(heap, sizes.weights)?)?,
+            Question::Reading => {
+                let node = Node {
+                    rule: 0,
+                    first: 0,
+                    count: 0,
+                };
+                let mut nodes = vec![in heap; node; sizes.nodes]?;
+                let replayed = self.reading(heap, sizes.weights, &mut nodes)?;
+                push_reading(out, replayed.reading, &nodes)?;
+            }
+        }
+        Ok(())
     }
 }
 
@@ -98,7 +142,7 @@ pub(crate) fn run<A: Spelled>(heap: Global, script: &Script<A>) -> Result<String
         book: &book,
         chart: &chart,
     };
-    let answers = calls.answers(heap, script.weights)?;
+    let answers = calls.answers(heap, script.sizes.weights)?;
     let mut answers = answers.iter();
     let mut out = String::new(heap);
     for answer in answers.by_ref().take(book.len()) {
@@ -113,16 +157,14 @@ pub(crate) fn run<A: Spelled>(heap: Global, script: &Script<A>) -> Result<String
                     writeln!(out, "{answer}")?;
                 }
             }
-            ChartLine::Total => {
-                let totals = Calls::<A> {
+            ChartLine::Ask(question) => {
+                let calls = Calls::<A> {
                     patterns: &script.patterns,
                     book: &book,
                     chart: chart.get(..made).unwrap_or(&[]),
-                }
-                .totals(heap, script.weights)?;
-                writeln!(out, "{totals}")?;
+                };
+                calls.push_asked(heap, &mut out, *question, script.sizes)?;
             }
-            ChartLine::Reading => {}
         }
     }
     Ok(out)

@@ -9,10 +9,7 @@ pub(crate) trait Spelled: Alphabet {
     fn begins_patterns(first: &[u8]) -> bool;
 
     // Adds the patterns that the words after it say: whether they say patterns.
-    fn add_patterns(
-        patterns: &mut Vec<Self::Pattern>,
-        words: &[&[u8]],
-    ) -> Result<bool, AllocError>;
+    fn add_patterns(patterns: &mut Vec<Self::Pattern>, words: &[&[u8]]) -> Result<bool, AllocError>;
 
     // The event that words say, if they say one.
     fn event(words: &[&[u8]]) -> Option<Self::Event>;
@@ -60,10 +57,7 @@ impl Spelled for Cards {
     }
 
     // Three words are a pattern; no word is none.
-    fn add_patterns(
-        patterns: &mut Vec<CardPattern>,
-        words: &[&[u8]],
-    ) -> Result<bool, AllocError> {
+    fn add_patterns(patterns: &mut Vec<CardPattern>, words: &[&[u8]]) -> Result<bool, AllocError> {
         if words.is_empty() {
             return Ok(true);
         }
