@@ -24,7 +24,7 @@ impl<'t, 'p, A: Alphabet, W: Weighing> Column<'t, 'p, A, W> {
     }
 
     // Writes zero to the cells of the column. A loop, since the library's fill asks for a clone that never fails, and a value of a
-    // weighing is only known to be Copy.
+    // weighing is only known to be Copy; with fill_with, which asks for none, two needs of the proof did not close.
     fn clear(&mut self)
         ensures cleared { Cleared W.Weighing.ops (column_place self.old.symbols self.old.end) (column_place self.old.symbols (self.old.end + 1)) self.old.weights.now self.new.weights.now }
         ensures same { SameColumn self.old self.new }

@@ -10,7 +10,7 @@ pub(crate) struct WeighedRule<V> {
     pub(crate) weight: V,
 }
 
-// What lies in a place that holds no rule.
+// What lies in a place that holds no rule. By hand, as that of a pair: the zero is handed in.
 impl<V: Copy> MadeWith<V> for WeighedRule<V> {
     fn made_with(zero: V) -> WeighedRule<V> {
         WeighedRule {

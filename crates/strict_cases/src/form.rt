@@ -54,7 +54,7 @@ fn push_rounds(heap: Global, out: &mut String, form: &StrictForm) -> Result<(), 
     Ok(())
 }
 
-// The lines of the strict rules.
+// The lines of the strict rules, asked for one by one, so that both read-only calls for them are run.
 fn push_rules(out: &mut String, book: &ClosedBook<Bytes>) -> Result<(), AllocError> {
     for rule in (0..book.strict_count()).filter_map(|place| book.strict_rule(place)) {
         write!(out, "{}", Line(rule))?;

@@ -39,11 +39,11 @@ fn same_when_written(
     book: &ClosedBook<Bytes>,
 ) -> anyhow::Result<bool> {
     let text = written(heap, book)?;
-    let Ok((other, loaded)) = loaded::<Bytes>(patterns, text.as_bytes()) else {
+    let Ok((other, lines_loaded)) = loaded::<Bytes>(patterns, text.as_bytes()) else {
         return Ok(false);
     };
     let lines = form_lines(heap, &other.close())?;
-    Ok(loaded == book.rule_count() && lines == form_lines(heap, book)?)
+    Ok(lines_loaded == book.rule_count() && lines == form_lines(heap, book)?)
 }
 
 // Whether the book of a case holds the rules loaded and no other, also when it is written and loaded again, and its lines are those expected.
@@ -51,14 +51,14 @@ pub(crate) fn agrees(heap: Global, case: &Case) -> anyhow::Result<bool> {
     let patterns = PATTERNS
         .get(..case.patterns)
         .context("a case has more than 32 patterns")?;
-    let Ok((mut book, loaded)) = loaded::<Bytes>(patterns, case.rules.as_bytes()) else {
+    let Ok((mut book, lines_loaded)) = loaded::<Bytes>(patterns, case.rules.as_bytes()) else {
         return Ok(false);
     };
     let mut out = offers(heap, &mut book, &case.offers)?;
     let closed = book.close();
     write!(out, "{}", form_lines(heap, &closed)?)?;
     Ok(
-        closed.rule_count() == loaded
+        closed.rule_count() == lines_loaded
             && out == case.expected
             && same_when_written(heap, patterns, &closed)?,
     )

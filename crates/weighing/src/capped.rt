@@ -23,6 +23,7 @@ impl From<Capped> for u32 {
     }
 }
 
+// The two conversions by name, where the type that is wanted is not plain from the place.
 impl Capped {
     pub fn of(n: u32) -> Capped
         ensures { result.n ≡ n }

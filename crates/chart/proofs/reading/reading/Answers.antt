@@ -38,16 +38,16 @@ returns-clause-means g c es h =
     let begun = c.of-table.ensures.wrote in
     let read : ReadingIs W fits es t (reading_answer c.answer.result) (nodes_of c.if-chart-eq0.table.nodes.now) = elim c.if-chart-eq0.branch [
       | then-chart-eq0 w ↦
-        let none : length es ≡ 0 = h.many ∙ w.if-chart-eq0.true in
-        let null = nothing_read W S fits es none (sym told.is_total ∙ yes) in
-        let same = w.converted.ensures in
-        let wrote = w.write_blank.ensures.wrote t [] (omega arith) (subst (λ v. nullable (binarised (rules_book v.rules)) 0 ≡ true) (sym same) null) begun in
-        means_read W S fits es t r _ _ _ some.1 (ap (λ v. tree_nodes 0 (nullable_tree (binarised (rules_book v.rules)) 0)) same ∙ nodes_nothing W S fits r es none some.1)
-            (c.answer.ensures t _ (subst (Wrote t _) (sym w.table-is) wrote)) (subst (Wrote t _) (sym w.table-is) wrote).places
+          let none : length es ≡ 0 = h.many ∙ w.if-chart-eq0.true in
+          let null = nothing_read W S fits es none (sym told.is_total ∙ yes) in
+          let same = w.converted.ensures in
+          let wrote = w.write_blank.ensures.wrote t [] (omega arith) (subst (λ v. nullable (binarised (rules_book v.rules)) 0 ≡ true) (sym same) null) begun in
+          means_read W S fits es t r _ _ _ some.1 (ap (λ v. tree_nodes 0 (nullable_tree (binarised (rules_book v.rules)) 0)) same ∙ nodes_nothing W S fits r es none some.1)
+          (c.answer.ensures t _ (subst (Wrote t _) (sym w.table-is) wrote)) (subst (Wrote t _) (sym w.table-is) wrote).places
       | else-chart-eq0 w ↦
-        let taken = nodes_taken W S fits r es (omega (arith, h.many, w.if-chart-eq0.false)) some.1 in
-        let wrote = w.write_symbol.ensures.wrote t [] (inl (omega arith)) g.A.Alphabet.test es h (binarise W r) (subst (Takes (binarised W) fits 0 (binarise W r)) (sym (whole_span W S fits es k.events h.many)) taken.0) begun in
-        means_read W S fits es t r _ _ _ some.1 taken.1 (c.answer.ensures t _ (subst (Wrote t _) (sym w.table-is) wrote)) (subst (Wrote t _) (sym w.table-is) wrote).places
+          let taken = nodes_taken W S fits r es (omega (arith, h.many, w.if-chart-eq0.false)) some.1 in
+          let wrote = w.write_symbol.ensures.wrote t [] (inl (omega arith)) g.A.Alphabet.test es h (binarise W r) (subst (Takes (binarised W) fits 0 (binarise W r)) (sym (whole_span W S fits es k.events h.many)) taken.0) begun in
+          means_read W S fits es t r _ _ _ some.1 taken.1 (c.answer.ensures t _ (subst (Wrote t _) (sym w.table-is) wrote)) (subst (Wrote t _) (sym w.table-is) wrote).places
     ] in
     let same_name : c.if-chart-eq0.table.nodes.ghost_name ≡ c.of-table.result.nodes.ghost_name = elim c.if-chart-eq0.branch [
       | then-chart-eq0 w ↦ ap (λ s. s.nodes.ghost_name) w.table-is ∙ w.write_blank.ensures.same.table
