@@ -1,4 +1,18 @@
-// The script program: scripts in, the answer to each call out.
+// The script program: scripts in, the answer to each call out. A line `%` alone parts one script from the next, in the input and in the output.
+// The lines of a script, their words parted by spaces; lines without words are passed over:
+// - bytes WORD ..: the book is over bytes, and each byte of the words is a pattern, numbered from 0.
+// - cards, or cards KIND LOWEST HIGHEST: the book is over card events, and the words are a pattern. A line of patterns begins the script.
+// - offer HEAD COST ITEM ..: an offer; item h is head h, item 32 + t is pattern t.
+// - load TEXT: a load of one rule line; or load alone, then rule lines, then end: a load of all of them.
+// - strike: a strike.
+// - weights N, nodes N: so many weights have the tables of weights, so many nodes that of nodes; 0 where no line says it.
+// - feed BYTE, or feed KIND ARGUMENT: a feed of an event. withdraw K: a withdrawal of the last K events.
+// - total, reading: what is asked of the chart there.
+// Patterns come before the calls of the book, and these and the sizes before those of the chart and what is asked.
+// A call prints what it answers: a number, or refused and its number, after a load with the byte place in its text. A total prints yes or no, the
+// number of readings and the least cost. A reading prints none; or nodes, their number, and a line RULE FIRST COUNT for each; or refused 13
+// and the nodes that stand. A malformed script prints one line, with the number of its line in the input, and a refused table of
+// patterns refused 8.
 ghost use Rattle.std.specs.Prelude.{◌≡◌, ◌<◌, length, IfOk, string_bytes, codes};
 
 pub mod fault;
