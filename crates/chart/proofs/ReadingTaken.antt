@@ -20,6 +20,8 @@ use Rattle.grammar.proofs.Marks.{binarised_nodes}
 use Rattle.grammar.proofs.Nodes.{events_length, told_by_nodes}
 use Rattle.grammar.proofs.NodeSpans.{spans, within}
 use Rattle.grammar.proofs.Tables.{tables}
+use Rattle.grammar.proofs.BinarisedRules.{binarised_bounded}
+use Rattle.grammar.proofs.Coherent.{first_below}
 use Rattle.grammar.proofs.Totals.{takes_one}
 use Rattle.chart.specs.Totals.{Explained}
 use Rattle.chart.specs.Readings.{ReadingIs}
@@ -73,6 +75,7 @@ module _ (W : Book) (sound : Sound W) {E : Type 0} (fits : E → ℕ → Bool) w
       answers = k;
       none_exactly = n;
       taken = takes_one E W sound fits es;
+      coherent = λ v x r s c f e. first_below B (binarised_bounded W sound) fits x v r s c f e;
       told = λ r d. let reads = ((takes_one E W sound fits es).is_plain r d).reads in record {
         many = events_length W fits reads;
         spans = λ k m. (spans W fits reads 0 k m, within W fits reads k m);
