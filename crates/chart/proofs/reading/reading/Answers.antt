@@ -1,4 +1,4 @@
-use Rattle.std.proofs.Common.{rules, ◌≡◌, ◌+◌, ◌<◌, ◌≤◌, List, length, sym, ap, ◌∙◌, subst, true, arith, inl, []}
+use Rattle.std.proofs.Common.{rules, ◌≡◌, ◌+◌, ◌<◌, ◌≤◌, List, length, sym, ap, ◌∙◌, subst, true, false, arith, inl, []}
 use Rattle.grammar.specs.Binarise.{binarise, binarised}
 use Rattle.grammar.specs.Nullable.{nullable, nullable_tree}
 use Rattle.grammar.specs.Nodes.{nodes, tree_nodes}
@@ -18,8 +18,9 @@ pub returns-then-not-explained-clause-means : goal.returns-then-not-explained-cl
 returns-then-not-explained-clause-means g c es h =
     let k = c.args.chart.now in
     let told = c.explained.ensures.means es h in
-    let no : c.explained.result ≡ _ = search in
-    means_none (chart_book k) (book_sound k.book.now) (chart_fits g.A.Alphabet.test k) es _ (told.no.0 no)
+    let no : c.explained.result ≡ false = search in
+    let is_none = means_none (chart_book k) (book_sound k.book.now) (chart_fits g.A.Alphabet.test k) es (nodes_of c.args.nodes.now) (told.no.0 no) in
+    search is_none
 
 pub write_symbol-requires-clause-symbol : goal.write_symbol-requires-clause-symbol
 write_symbol-requires-clause-symbol g c = let l = symbols_least (chart_book c.args.chart.now) in omega (arith, l)
