@@ -83,8 +83,8 @@ pub struct Tables {
     costs: Vec<Capped>,
 }
 
-// Each weighing cuts, feeds and asks in turn: one function that does it for all of them can't be stated yet, since neither a
-// closure over a chart nor a result that holds one can stand in its contract.
+// Each weighing asks the chart's call of its own, whose promise it hands on; one function over the total of any weighing would leave
+// those calls aside and owe their promises again. What the three share is the cut and `feed_all`.
 impl Tables {
     // Tables of so many weights.
     pub fn new(heap: Global, weights: usize) -> Result<Tables, AllocError>
