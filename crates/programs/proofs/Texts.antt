@@ -1,5 +1,5 @@
 -- The lines of a text as their bytes, and the first that is % alone.
-use Rattle.std.proofs.Common.{◌≡◌, ℕ, suc, ◌+◌, ◌-◌, ◌<◌, ◌≤◌, Bool, true, false, cond, ltb, List, [], ◌∷◌, ◌++◌, map, length, get_or, take, drop, sym, refl, ap, ◌∙◌, subst, inl, inr, ⊎_elim, append-nil, arith}
+use Rattle.std.proofs.Common.{◌≡◌, ℕ, suc, ◌+◌, ◌-◌, ◌<◌, ◌≤◌, Bool, true, false, cond, ltb, List, [], ◌∷◌, ◌++◌, map, length, get_or, take, drop, sym, refl, ap, ◌∙◌, subst, inl, inr, ⊎_elim, append_assoc, append-nil, arith}
 use Rattle.std.proofs.lemmas.List.{length-drop, length-take-le, drop-take, drop_all, drop_more, take-take}
 use Rattle.std.proofs.lemmas.Bool.{cases_Bool, cases_lt, cond-true, cond-false, eq-eqb, ne_eqb, lt-ltb, le-ltb}
 use Rattle.text.specs.Words.{Piece, piece, longer, pieces, ends_line, lines, some_byte, AllAre, IsLineEnd}
@@ -104,3 +104,14 @@ next_texts xs was is l e h =
     let ends = subst (λ n. IsLineEnd xs n to) h.begins (subst (λ x. IsLineEnd x l.from to) e h.ends) in
     texts_at xs was.from to some ends
     ∙ ap (λ w. w ∷ line_texts (drop (to + 1) xs)) (sym (bytes_at xs was is l e h)) ∙ ap (λ n. drop l.from l.text.now ∷ line_texts (drop n xs)) (sym h.past)
+
+-- what f gives for the next line, and for those still to come
+pub each_next : (f : List ℕ → List ℕ) (xs : List ℕ) (was is : Lines) (l : Line) (w out printed : List ℕ) → was.text.now ≡ xs → IsNextLine was l is → w ≡ drop l.from l.text.now → printed ≡ out ++ f w
+    → out ++ each f (line_texts (drop was.from xs)) ≡ printed ++ each f (line_texts (drop is.from xs))
+each_next f xs was is l w out printed e h b p =
+    let rest = each f (line_texts (drop is.from xs)) in
+    ap (λ ls. out ++ each f ls) (next_texts xs was is l e h) ∙ ap (λ v. out ++ (f v ++ rest)) (sym b) ∙ sym (append_assoc out (f w) rest) ∙ ap (λ o. o ++ rest) (sym p)
+
+-- past the end there is no line
+pub no_more : (f : List ℕ → List ℕ) (xs : List ℕ) (from : ℕ) → length xs ≤ from → each f (line_texts (drop from xs)) ≡ []
+no_more f xs from h = ap (λ l. each f (line_texts l)) (drop_all from xs h) ∙ ap (each f) texts_none

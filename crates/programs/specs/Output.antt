@@ -1,5 +1,5 @@
 -- What the line program prints.
-use Rattle.std.specs.Prelude.{◌≡◌, ℕ, ◌+◌, ◌≤◌, Bool, cond, ◌&&◌, ◌⊎◌, List, [], ◌∷◌, ◌++◌, map, length, take, drop, nat_eq, nat_le, nat_lt, codes, decimal, ◌≢◌}
+use Rattle.std.specs.Prelude.{◌≡◌, ℕ, ◌+◌, ◌≤◌, Bool, cond, ◌&&◌, ◌⊎◌, List, [], ◌∷◌, ◌++◌, map, length, take, drop, nat_eq, nat_le, nat_lt, codes, decimal, ◌≢◌, vec_len}
 use Rattle.grammar.specs.Lists.{Mem, each, first_of, same_numbers, count_up}
 use Rattle.grammar.specs.Productions.{Production, Book}
 use Rattle.grammar.specs.Binarise.{binarised}
@@ -12,6 +12,7 @@ use Rattle.book.specs.Loads.{Load, taken, stopped, load, LoadMeans}
 use Rattle.book.specs.Offers.{book}
 use Rattle.chart.specs.Totals.{Explained, CountsReadings, IsLeastCost}
 use Rattle.programs.specs.Answers.{totals_words}
+use Rattle.programs.specs.declared.totals.Tables.{Tables}
 use Rattle.programs.specs.declared.totals.Totals.{Totals}
 
 -- the texts without the last, if that has no byte
@@ -47,6 +48,10 @@ letter_fits = table_fits nat_eq (count_up 97 26)
 -- tables of 15,360 weights have room for so many events, S weights to a cell
 abbrev pub has_room : ℕ → ℕ → Bool
 has_room S events = nat_le events 256 && nat_le (column_place S (events + 1)) 15360
+
+-- each of the tables has so many weights
+abbrev pub HaveWeights : Tables → Type 0
+HaveWeights t = (vec_len t.verdicts ≡ 15360) × (vec_len t.counts ≡ 15360) × (vec_len t.costs ≡ 15360)
 
 -- the totals of a trace by the three weighings
 abbrev pub trace_totals : Book → (ℕ → ℕ → Bool) → List ℕ → Totals
