@@ -1,3 +1,4 @@
+pub mod Dividing
 pub mod Feeding
 pub mod Printing
 pub mod Texts

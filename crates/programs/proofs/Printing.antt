@@ -30,7 +30,7 @@ room_yes S n (inr (few, low)) =
     ap (λ b. b && leb (column_place S (n + 1)) 15360) (le-leb n 256 (omega arith))
     ∙ ap (λ b. true && b) (le-leb (column_place S (n + 1)) 15360 (subst (λ k. column_place S (k + 1) ≤ 15360) (zero-add n) low))
 
-both_true : (a b : Bool) → a && b ≡ true → (a ≡ true) × (b ≡ true)
+pub both_true : (a b : Bool) → a && b ≡ true → (a ≡ true) × (b ≡ true)
 both_true true b h = (refl, h)
 both_true false b h = absurd (both_ways _ refl h)
 

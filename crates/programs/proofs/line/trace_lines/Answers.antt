@@ -13,7 +13,7 @@ loop-line-preserved c =
       text = g.same ∙ i.text;
       weights = c.push_line.ensures.tables;
       whole = i.whole ∙ each_next f c.args.traces.now c.loop-line.line-iterator c.next.new.self c.in-Some.line c.bytes.result.now (string_bytes c.loop-line.out) (string_bytes c.push_line.new.out) i.text g c.bytes.ensures
-      c.in_ok-push_line.ensures.line;
+          c.in_ok-push_line.ensures.line;
     }
 
 pub returns : goal.returns
