@@ -1,20 +1,21 @@
 -- The lines that are printed for traces.
-use Rattle.std.proofs.Common.{◌≡◌, ℕ, ◌+◌, ◌-◌, ◌*◌, ◌/◌, ◌≤◌, Bool, true, false, cond, ◌&&◌, leb, nat_eq, List, [], ◌∷◌, ◌++◌, length, sym, refl, ap, ◌∙◌, subst, inl, inr, ⊎_elim, zero-add, zero-mul, arith}
+use Rattle.std.proofs.Common.{◌≡◌, ℕ, ◌+◌, ◌-◌, ◌*◌, ◌/◌, ◌<◌, ◌≤◌, Bool, true, false, cond, ◌&&◌, ltb, leb, nat_eq, List, [], ◌∷◌, ◌++◌, length, sym, refl, ap, ◌∙◌, subst, inl, inr, ⊎_elim, zero-add, zero-mul, arith}
 use Rattle.std.specs.Prelude.{decimal, codes}
 use Rattle.std.specs.Fmt.{digits}
-use Rattle.std.proofs.lemmas.Bool.{both_ways, cases_Bool, cond-true, cond-false, le-leb, leb-true}
+use Rattle.std.proofs.lemmas.Bool.{both_ways, cases_Bool, cond-true, cond-false, lt-ltb, le-ltb, le-leb, leb-true}
 use Rattle.grammar.specs.Rooms.{column_place}
 use Rattle.grammar.specs.Binarise.{binarised}
 use Rattle.book.specs.declared.alphabet.Alphabet.{Ghosts}
 use Rattle.book.specs.declared.books.ClosedBook.{ClosedBook}
 use Rattle.book.specs.Books.{closed_book, closed_fits}
+use Rattle.book.specs.Loads.{load}
 use Rattle.chart.specs.declared.fault.FeedFault.{FeedFault}
 use Rattle.chart.specs.declared.fault.FeedFault.TheVariants.{NoRoom}
 use Rattle.chart.specs.Faults.{feed_number}
 use Rattle.programs.specs.declared.totals.Totals.{Totals}
 use Rattle.programs.specs.declared.totals.Tables.{Tables}
 use Rattle.programs.specs.Answers.{AreTotals, HasRoom, HaveRoom, totals_words}
-use Rattle.programs.specs.Output.{has_room, HaveWeights, trace_totals, trace_line}
+use Rattle.programs.specs.Output.{has_room, HaveWeights, trace_totals, trace_line, rules_part, traces_part, loaded_output, line_output}
 
 eleven : codes "refused " ++ decimal 11 ≡ codes "refused 11"
 unfolding digits
@@ -76,3 +77,15 @@ module _ {A : Type 0} {G : Ghosts A ℕ ℕ} (b : ClosedBook A ℕ ℕ G) (w : L
       ∙ ap (λ l. decimal (length w) ++ (32 ∷ (l ++ (10 ∷ [])))) eleven
       ∙ sym (ap (λ l. decimal (length w) ++ (32 ∷ (l ++ (10 ∷ []))))
       (cond-false (has_room S (length w)) (totals_words (trace_totals (closed_book b) fits w)) (codes "refused 11") no))
+
+-- an input that is too long
+pub over_limit : (input : List ℕ) → 32768 < length input → line_output input ≡ codes "refused 25\n"
+unfolding line_output
+over_limit input h = cond-true (ltb 32768 (length input)) (codes "refused 25\n") (loaded_output (load 26 [] (rules_part input)) (traces_part input)) (lt-ltb 32768 (length input) h)
+
+-- any other, by its parts
+pub within_limit : (input rules traces : List ℕ) → length input ≤ 32768 → rules ≡ rules_part input → traces ≡ traces_part input → loaded_output (load 26 [] rules) traces ≡ line_output input
+unfolding line_output
+within_limit input rules traces h r t =
+    ap (λ w. loaded_output (load 26 [] w) traces) r ∙ ap (loaded_output (load 26 [] (rules_part input))) t
+    ∙ sym (cond-false (ltb 32768 (length input)) (codes "refused 25\n") (loaded_output (load 26 [] (rules_part input)) (traces_part input)) (le-ltb 32768 (length input) h))
