@@ -1,1 +1,6 @@
+pub mod Dividing
 pub mod Feeding
+pub mod Meaning
+pub mod Parts
+pub mod Printing
+pub mod Texts

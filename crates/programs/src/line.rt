@@ -1,5 +1,9 @@
 // The line program: rule text and traces in, a line of totals for each trace out.
-ghost use Rattle.std.specs.Prelude.{◌≡◌, ◌<◌, length, IfOk, string_bytes, codes};
+ghost use Rattle.std.specs.Prelude.{◌≡◌, ◌++◌, [], IfOk, OnOk, string_bytes, nat_eq};
+ghost use Rattle.grammar.specs.Lists.{each, count_up};
+ghost use Rattle.book.specs.Books.{open_held, closed_book, closed_fits};
+ghost use Rattle.book.specs.Loads.{load};
+ghost use Rattle.programs.specs.Output.{line_texts, trace_line, loaded_output, line_output, HaveWeights, LineMeans};
 
 use crate::divide::{Parts, divide};
 use crate::patterns::{LETTERS, PATTERNS};
@@ -22,7 +26,11 @@ fn push_line(
     book: &ClosedBook<Bytes>,
     tables: &mut Tables,
     trace: &[u8],
-) -> Result<(), AllocError> {
+) -> Result<(), AllocError>
+    requires { HaveWeights tables.old }
+    ensures line { OnOk result (string_bytes out.new ≡ string_bytes out.old ++ trace_line (closed_book book.now) (closed_fits nat_eq book.now) trace.now) }
+    ensures tables { HaveWeights tables.new }
+{
     let length = trace.len();
     match tables.totals(book, trace) {
         Ok(totals) => writeln!(out, "{length} {totals}"),
@@ -31,11 +39,9 @@ fn push_line(
 }
 
 // The lines for all traces.
-fn trace_lines(
-    heap: Global,
-    book: &ClosedBook<Bytes>,
-    traces: &[u8],
-) -> Result<String, AllocError> {
+fn trace_lines(heap: Global, book: &ClosedBook<Bytes>, traces: &[u8]) -> Result<String, AllocError>
+    ensures { IfOk result (λ s. string_bytes s ≡ each (trace_line (closed_book book.now) (closed_fits nat_eq book.now)) (line_texts traces.now)) }
+{
     let mut out = String::new(heap);
     let mut tables = Tables::new(heap, WEIGHTS)?;
     for line in Lines::of(traces) {
@@ -45,7 +51,11 @@ fn trace_lines(
 }
 
 // The output for a book that was loaded. It loads by itself, since a refusal is printed in words of its own.
-fn loaded(heap: Global, mut book: OpenBook<Bytes>, parts: Parts) -> Result<String, AllocError> {
+fn loaded(heap: Global, mut book: OpenBook<Bytes>, parts: Parts) -> Result<String, AllocError>
+    requires none { open_held book ≡ [] }
+    requires letters { book.table.patterns.now ≡ count_up 97 26 }
+    ensures { IfOk result (λ s. string_bytes s ≡ loaded_output (load 26 [] parts.entry.rules.now) parts.entry.traces.now) }
+{
     if let Err(fault) = book.load(parts.rules) {
         return format!(in heap; "refused {} {}\n", fault.number(), fault.place());
     }
@@ -55,7 +65,8 @@ fn loaded(heap: Global, mut book: OpenBook<Bytes>, parts: Parts) -> Result<Strin
 
 // The output for an input of any bytes. The patterns are the small letters, of which no table refuses any.
 pub fn line(heap: Global, input: &[u8]) -> Result<String, AllocError>
-    ensures { 32768 < length input.now → IfOk result (λ s. string_bytes s ≡ codes "refused 25\n") }
+    ensures output { IfOk result (λ s. string_bytes s ≡ line_output input.now) }
+    ensures means { LineMeans input.now }
 {
     if input.len() > LIMIT {
         return format!(in heap; "refused 25\n");
