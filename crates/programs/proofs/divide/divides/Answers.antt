@@ -1,4 +1,4 @@
-use Rattle.std.proofs.Common.{◌≡◌, ap₂, ◌∙◌}
+use Rattle.std.proofs.Common.{ap₂, ◌∙◌}
 use Rattle.grammar.specs.Lists.{same_numbers}
 use Rattle.programs.proofs.Dividing.{compared}
 use Rattle.programs.proofs.divide.divides.Goals as goal
