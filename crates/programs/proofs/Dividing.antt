@@ -22,11 +22,9 @@ just [] h = absurd (true≢false (sym h))
 just (b ∷ []) h = ap (λ c. c ∷ []) (eqb-true b 37 (both_true (eqb b 37) true h).0)
 just (b ∷ (c ∷ w)) h = absurd (true≢false (sym (both_true (eqb b 37) false h).1))
 
--- std's comparison of a text with % is that of the definition
-pub compares : (r b : Bool) (w v p : List ℕ) → r ≡ pointwise nat_eq w p → r ≡ b → w ≡ v → p ≡ 37 ∷ [] → same_numbers v (37 ∷ []) ≡ b
-compares r b w v p e t f g =
-    let same : r ≡ same_numbers w p = same_from_decides r (same_numbers w p) (slice_eq-Decides Decides-eqb w p r e) (compares_Decides same_numbers (search rules) w p) in
-    ap (same_numbers v) (sym g) ∙ ap (λ x. same_numbers x p) (sym f) ∙ sym same ∙ t
+-- std's comparison of two texts is that of the definition
+pub compared : (r : Bool) (w v : List ℕ) → r ≡ pointwise nat_eq w v → r ≡ same_numbers w v
+compared r w v e = same_from_decides r (same_numbers w v) (slice_eq-Decides Decides-eqb w v r e) (compares_Decides same_numbers (search rules) w v)
 
 -- what get gives behind a place, or nothing
 pub behind : (xs : List ℕ) (n : ℕ) (o : Option (Bor (List ℕ))) (d : Bor (List ℕ))

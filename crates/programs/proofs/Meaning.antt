@@ -3,7 +3,7 @@ use Rattle.std.proofs.Common.{◌≡◌, ℕ, suc, ◌+◌, ◌<◌, ◌≤◌, 
 use Rattle.std.proofs.lemmas.Bool.{eqb-true}
 use Rattle.std.proofs.lemmas.Bool.Decides.{nat_tests}
 use Rattle.grammar.specs.Lists.{some_of, count_up}
-use Rattle.grammar.specs.Productions.{Production, Book, Sound, all_tails}
+use Rattle.grammar.specs.Productions.{Production, Book, Sound}
 use Rattle.grammar.specs.Binarise.{Admitted}
 use Rattle.grammar.specs.Weighings.{yes_no}
 use Rattle.grammar.specs.Weights.{total_of}
@@ -20,8 +20,8 @@ use Rattle.book.proofs.Refused.{PastFour, past_sound, sized_admitted}
 use Rattle.weighing.specs.Values.{counts as capped_counts, least_costs}
 use Rattle.chart.specs.Totals.{CountsReadings, IsLeastCost}
 use Rattle.chart.proofs.ByKind.{explained_by, counted_by, least_by}
-use Rattle.programs.specs.Output.{letter_fits, rules_part, TotalsMean, LineMeans}
-use Rattle.programs.proofs.Parts.{divided}
+use Rattle.programs.specs.Output.{letter_fits, rules_part, traces_part, TotalsMean, LineMeans}
+use Rattle.programs.proofs.Parts.{divided, lines_law}
 
 -- A load keeps to the bounds of a book
 
@@ -83,6 +83,7 @@ totals_mean W sound = record {
 pub output_means : (input : List ℕ) → LineMeans input
 output_means input = record {
   divided = divided input;
+  traces = lines_law (traces_part input);
   loads = load_means 26 [] (rules_part input) (omega arith);
   fits = tests_table (λ (p e : ℕ). p ≡ e) nat_eq bytes_tested (count_up 97 26);
   totals = λ rules n e. totals_mean (book 26 rules) (load_admitted 26 (rules_part input) rules n (omega arith) e).sound;

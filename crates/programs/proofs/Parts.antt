@@ -1,5 +1,6 @@
 -- The two parts of an input are those of the law.
-use Rattle.std.proofs.Common.{◌≡◌, ℕ, suc, ◌+◌, ◌≤◌, ◌⊎◌, Bool, true, false, true≢false, cond, eqb, List, [], ◌∷◌, ◌++◌, length, take, drop, sym, refl, ap, ◌∙◌, subst, inl, inr, append_assoc, arith, length-append}
+use Rattle.std.specs.Prelude.{◌↔◌}
+use Rattle.std.proofs.Common.{◌≡◌, ℕ, suc, ◌+◌, ◌⊎◌, false, true≢false, List, [], ◌∷◌, ◌++◌, length, take, drop, sym, refl, ap, ◌∙◌, subst, inl, inr, append_assoc, arith, length-append}
 use Rattle.std.proofs.lemmas.List.{take-append-drop, drop-drop, drop_all, take_all}
 use Rattle.std.proofs.lemmas.Bool.{cases_Bool, cond-true, cond-false, eqb-true}
 use Rattle.grammar.specs.Lists.{Mem, first_of, same_numbers}
@@ -7,8 +8,10 @@ use Rattle.text.specs.Words.{Piece, piece, pieces, ends_line, lines, AllAre, Cut
 use Rattle.text.specs.Words.Cut.{last, next}
 use Rattle.text.proofs.Wording.{pieces_last, pieces_next}
 use Rattle.text.proofs.Cutting.{cut_is}
-use Rattle.programs.specs.Output.{divides, divider, rules_part, traces_part, Whole, Divided}
+use Rattle.programs.specs.Output.{line_texts, divides, divider, rules_part, traces_part, LinesAre, Whole, Divided}
+use Rattle.programs.specs.Output.LinesAre.{none, last as last_line, next as next_line}
 use Rattle.programs.proofs.Dividing.{just}
+use Rattle.programs.proofs.Texts.{texts_none, texts_last, texts_next}
 
 -- no line is % alone, wherever the text stands
 abbrev Free : List ℕ → Type 0
@@ -110,3 +113,24 @@ divided input =
     let p = parted (cut_is ends_line 0 input) (length input) n in
     let at : p.0 ≡ divider input = (let z : 0 + p.0 ≡ p.0 = omega arith in sym (p.1 ∙ z)) in
     subst (λ k. Divided input (take k input) (drop (k + 2) input)) at (parts_of input p.0 p.2)
+
+-- The lines of a text
+
+lines_only : {text : List ℕ} {ws : List (List ℕ)} → LinesAre text ws → ws ≡ line_texts text
+lines_only none = sym texts_none
+lines_only (last_line b w free) = sym (texts_last b w free)
+lines_only (next_line w rest ws free r) = ap (λ l. w ∷ l) (lines_only r) ∙ sym (texts_next w rest free)
+
+lines_last : (w : List ℕ) → AllAre ends_line false w → LinesAre w (line_texts w)
+lines_last [] free = subst (LinesAre []) (sym texts_none) none
+lines_last (b ∷ w) free = subst (LinesAre (b ∷ w)) (sym (texts_last b w free)) (last_line b w free)
+
+lines_are : {at : ℕ} {text : List ℕ} {ps : List Piece} → Cut ends_line at text ps → LinesAre text (line_texts text)
+lines_are (last at w free) = lines_last w free
+lines_are (next at w b rest ps free t cut) =
+    let ten : 10 ≡ b = sym (eqb-true b 10 t) in
+    let all : LinesAre (w ++ (10 ∷ rest)) (w ∷ line_texts rest) = next_line w rest (line_texts rest) free (lines_are cut) in
+    subst (λ c. LinesAre (w ++ (c ∷ rest)) (line_texts (w ++ (c ∷ rest)))) ten (subst (LinesAre (w ++ (10 ∷ rest))) (sym (texts_next w rest free)) all)
+
+pub lines_law : (text : List ℕ) (ws : List (List ℕ)) → LinesAre text ws ↔ (ws ≡ line_texts text)
+lines_law text ws = (lines_only, λ e. subst (LinesAre text) (sym e) (lines_are (cut_is ends_line 0 text)))

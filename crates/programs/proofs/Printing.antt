@@ -1,6 +1,7 @@
 -- The lines that are printed for traces.
-use Rattle.std.proofs.Common.{◌≡◌, ℕ, ◌+◌, ◌-◌, ◌*◌, ◌/◌, ◌<◌, ◌≤◌, Bool, true, false, cond, ◌&&◌, ltb, leb, nat_eq, List, [], ◌∷◌, ◌++◌, length, sym, refl, ap, ◌∙◌, subst, inl, inr, ⊎_elim, zero-add, zero-mul, arith}
-use Rattle.std.specs.Prelude.{decimal, codes}
+use Rattle.std.proofs.Common.{◌≡◌, ℕ, ◌+◌, ◌<◌, ◌≤◌, Bool, true, false, ◌&&◌, ltb, leb, nat_eq, Result, List, [], ◌∷◌, ◌++◌, length, sym, refl, ap, ◌∙◌, subst, inl, inr, ⊎_elim, zero-add, zero-mul, arith}
+use Rattle.std.specs.Prelude.{OnOk, decimal, codes}
+use Rattle.std.proofs.lemmas.Result.{on_ok_weaker}
 use Rattle.std.specs.Fmt.{digits}
 use Rattle.std.proofs.lemmas.Bool.{both_ways, cases_Bool, cond-true, cond-false, lt-ltb, le-ltb, le-leb, leb-true}
 use Rattle.grammar.specs.Rooms.{column_place}
@@ -77,6 +78,10 @@ module _ {A : Type 0} {G : Ghosts A ℕ ℕ} (b : ClosedBook A ℕ ℕ G) (w : L
       ∙ ap (λ l. decimal (length w) ++ (32 ∷ (l ++ (10 ∷ [])))) eleven
       ∙ sym (ap (λ l. decimal (length w) ++ (32 ∷ (l ++ (10 ∷ []))))
       (cond-false (has_room S (length w)) (totals_words (trace_totals (closed_book b) fits w)) (codes "refused 11") no))
+
+-- what is added where memory does not fail, spelled otherwise
+pub printed : {X Y : Type 0} (r : Result X Y) (is was added line : List ℕ) → added ≡ line → OnOk r (is ≡ was ++ added) → OnOk r (is ≡ was ++ line)
+printed r is was added line e h = on_ok_weaker r (λ p. p ∙ ap (λ l. was ++ l) e) h
 
 -- an input that is too long
 pub over_limit : (input : List ℕ) → 32768 < length input → line_output input ≡ codes "refused 25\n"

@@ -1,14 +1,14 @@
 -- The lines of a text as their bytes, and the first that is % alone.
-use Rattle.std.proofs.Common.{◌≡◌, ℕ, suc, ◌+◌, ◌-◌, ◌<◌, ◌≤◌, Bool, true, false, cond, ltb, List, [], ◌∷◌, ◌++◌, map, length, get_or, take, drop, sym, refl, ap, ◌∙◌, subst, inl, inr, ⊎_elim, append_assoc, append-nil, arith}
-use Rattle.std.proofs.lemmas.List.{length-drop, length-take-le, drop-take, drop_all, drop_more, take-take}
-use Rattle.std.proofs.lemmas.Bool.{cases_Bool, cases_lt, cond-true, cond-false, eq-eqb, ne_eqb, lt-ltb, le-ltb}
-use Rattle.text.specs.Words.{Piece, piece, longer, pieces, ends_line, lines, some_byte, AllAre, IsLineEnd}
+use Rattle.std.proofs.Common.{◌≡◌, ℕ, suc, ◌+◌, ◌-◌, ◌<◌, ◌≤◌, Bool, true, false, cond, List, [], ◌∷◌, ◌++◌, map, length, get_or, take, drop, sym, refl, ap, ◌∙◌, subst, ⊎_elim, append_assoc, append-nil, arith}
+use Rattle.std.proofs.lemmas.List.{drop-take, drop_all, drop_more}
+use Rattle.std.proofs.lemmas.Bool.{cases_lt, ne_eqb}
+use Rattle.text.specs.Words.{Piece, piece, longer, pieces, ends_line, AllAre, IsLineEnd}
 use Rattle.text.specs.Turns.{IsNextLine}
 use Rattle.text.specs.declared.lines.Line.{Line}
 use Rattle.text.specs.declared.lines.Lines.{Lines}
-use Rattle.text.proofs.Wording.{pieces_last, pieces_next, line_at, stretch, stretch_all, stretch_rest, length_stretch}
-use Rattle.grammar.specs.Lists.{each, first_of}
-use Rattle.programs.specs.Output.{but_empty_last, line_texts, divides, divider}
+use Rattle.text.proofs.Wording.{pieces_last, pieces_next, stretch, stretch_all, stretch_rest, length_stretch}
+use Rattle.grammar.specs.Lists.{each}
+use Rattle.programs.specs.Output.{but_empty_last, line_texts}
 
 -- the bytes of each piece
 abbrev pub texts : List Piece → List (List ℕ)

@@ -1,12 +1,12 @@
 -- What the line program prints.
-use Rattle.std.specs.Prelude.{◌≡◌, ℕ, ◌+◌, ◌≤◌, Bool, cond, ◌&&◌, ◌⊎◌, List, [], ◌∷◌, ◌++◌, map, length, take, drop, nat_eq, nat_le, nat_lt, codes, decimal, ◌≢◌, vec_len}
+use Rattle.std.specs.Prelude.{◌≡◌, ℕ, ◌+◌, Bool, false, cond, ◌&&◌, ◌⊎◌, ◌↔◌, List, [], ◌∷◌, ◌++◌, map, length, take, drop, nat_eq, nat_le, nat_lt, codes, decimal, ◌≢◌, vec_len}
 use Rattle.grammar.specs.Lists.{Mem, each, first_of, same_numbers, count_up}
 use Rattle.grammar.specs.Productions.{Production, Book}
 use Rattle.grammar.specs.Binarise.{binarised}
 use Rattle.grammar.specs.Rooms.{column_place}
 use Rattle.grammar.specs.Weighings.{yes_no, counts, costs}
 use Rattle.grammar.specs.Weights.{total_of}
-use Rattle.text.specs.Words.{Piece, piece, lines, some_byte}
+use Rattle.text.specs.Words.{Piece, piece, lines, ends_line, some_byte, AllAre}
 use Rattle.book.specs.Fits.{table_fits, TestsTable}
 use Rattle.book.specs.Loads.{Load, taken, stopped, load, LoadMeans}
 use Rattle.book.specs.Offers.{book}
@@ -76,6 +76,12 @@ line_output input = cond (nat_lt 32768 (length input)) (codes "refused 25\n") (l
 
 -- Laws
 
+-- a text is these lines: a line feed ends each, or the end of the text the last, if that has a byte; no line holds a line feed
+pub data LinesAre : List ℕ → List (List ℕ) → Type 0 where
+  none : LinesAre [] []
+  last : (b : ℕ) (w : List ℕ) → AllAre ends_line false (b ∷ w) → LinesAre (b ∷ w) ((b ∷ w) ∷ [])
+  next : (w rest : List ℕ) (ws : List (List ℕ)) → AllAre ends_line false w → LinesAre rest ws → LinesAre (w ++ (10 ∷ rest)) (w ∷ ws)
+
 -- no line of the text is % alone
 abbrev pub NoDivider : List ℕ → Type 0
 NoDivider text = (l : Piece) → Mem l (lines 0 text) → l.bytes ≢ 37 ∷ []
@@ -99,6 +105,8 @@ pub record TotalsMean (W : Book) : Type 0 where
 pub record LineMeans (input : List ℕ) : Type 0 where
   -- where the two parts lie
   pub divided : Divided input (rules_part input) (traces_part input)
+  -- the traces are the lines of their part, and no others
+  pub traces : (ws : List (List ℕ)) → LinesAre (traces_part input) ws ↔ (ws ≡ line_texts (traces_part input))
   -- the rules are loaded line by line
   pub loads : LoadMeans 26 [] (rules_part input)
   -- a pattern fits its letter

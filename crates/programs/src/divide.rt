@@ -1,14 +1,22 @@
 // The two parts of the line program's input.
-ghost use Rattle.std.specs.Prelude.{◌≡◌};
+ghost use Rattle.std.specs.Prelude.{◌≡◌, ◌∷◌, [], drop};
+ghost use Rattle.grammar.specs.Lists.{same_numbers};
 ghost use Rattle.programs.specs.Output.{rules_part, traces_part};
 
-use text::lines::Lines;
+use text::lines::{Line, Lines};
 
 // Rule text, and traces one to a line.
 #[derive(Clone, Copy)]
 pub struct Parts<'i> {
     pub rules: &'i [u8],
     pub traces: &'i [u8],
+}
+
+// Whether a line is % alone.
+fn divides(line: Line<'_>) -> bool
+    ensures { result ≡ same_numbers (drop line.entry.from line.entry.text.now) (37 ∷ []) }
+{
+    line.bytes() == b"%".as_slice()
 }
 
 // The input before and after its first line that is % alone; without such a line all of it is rule text. A loop, and not `find`: that
@@ -18,7 +26,7 @@ pub(crate) fn divide(input: &[u8]) -> Parts<'_>
     ensures traces { result.traces.now ≡ traces_part input.now }
 {
     for line in Lines::of(input) {
-        if line.bytes() == b"%".as_slice() {
+        if divides(line) {
             return Parts {
                 rules: &line.text[..line.from],
                 traces: input.get(line.text.len() + 1..).unwrap_or(&[]),

@@ -1,14 +1,13 @@
-use Rattle.std.proofs.Common.{◌≡◌, ◌++◌, string_bytes, sym, refl, ap, ◌∙◌, true≢false}
-use Rattle.std.proofs.lemmas.Result.{on_ok_weaker}
-use Rattle.programs.proofs.Printing.{line_of_totals, line_of_refusal}
+use Rattle.std.proofs.Common.{true≢false, sym, refl}
+use Rattle.programs.proofs.Printing.{printed, line_of_totals, line_of_refusal}
 use Rattle.programs.proofs.line.push_line.Goals as goal
 
 pub returns-in-Ok-clause-line : goal.returns-in-Ok-clause-line
 returns-in-Ok-clause-line c =
     let line = line_of_totals c.args.book.now c.args.trace.now c.args.tables.now c.requires c.in-Ok.totals c.in-Ok.ensures.answer (c.in-Ok.ensures.room.0 refl) in
-    on_ok_weaker c.writeln.result (λ e. e ∙ ap (λ l. string_bytes c.args.out.now ++ l) line) c.writeln.ensures.bytes
+    printed c.writeln.result _ _ _ _ line (search c.writeln.ensures.bytes)
 
 pub returns-in-Err-clause-line : goal.returns-in-Err-clause-line
 returns-in-Err-clause-line c =
     let line = line_of_refusal c.args.book.now c.args.trace.now c.args.tables.now c.requires c.in-Err.fault c.number.result c.number.ensures (λ r. true≢false (sym (c.in-Err.ensures.room.1 r))) in
-    on_ok_weaker c.writeln-in-Err.result (λ e. e ∙ ap (λ l. string_bytes c.args.out.now ++ l) line) c.writeln-in-Err.ensures.bytes
+    printed c.writeln-in-Err.result _ _ _ _ line (search c.writeln-in-Err.ensures.bytes)

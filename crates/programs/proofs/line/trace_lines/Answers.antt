@@ -1,4 +1,4 @@
-use Rattle.std.proofs.Common.{◌≡◌, ◌++◌, length, nat_eq, string_bytes, refl, sym, ap, ◌∙◌, append-nil, arith}
+use Rattle.std.proofs.Common.{◌++◌, length, nat_eq, string_bytes, sym, ap, ◌∙◌, append-nil, arith}
 use Rattle.book.specs.Books.{closed_book, closed_fits}
 use Rattle.programs.specs.Output.{trace_line}
 use Rattle.programs.proofs.Texts.{each_next, no_more}
