@@ -95,7 +95,7 @@ abbrev pub Divided : List ℕ → List ℕ → List ℕ → Type 0
 Divided input rules traces = NoDivider rules
     × (((rules ≡ input) × (traces ≡ [])) ⊎ (Whole rules × (((input ≡ rules ++ (37 ∷ [])) × (traces ≡ [])) ⊎ (input ≡ rules ++ (37 ∷ (10 ∷ traces))))))
 
--- the totals of each trace mean what they are to
+-- of every trace the three totals are: whether there is a reading, how many there are, and what the cheapest costs
 pub record TotalsMean (W : Book) : Type 0 where
   pub verdict : (w : List ℕ) → Explained W letter_fits w (total_of W yes_no letter_fits w)
   pub count : (w : List ℕ) → CountsReadings W letter_fits 4294967295 w (total_of W (counts 4294967295) letter_fits w)
