@@ -1,4 +1,4 @@
-use Rattle.std.proofs.Common.{◌+◌, ◌≤◌, length, sym, ◌∙◌, arith}
+use Rattle.std.proofs.Common.{◌≡◌, ◌+◌, ◌≤◌, length, true, sym, ◌∙◌, arith}
 use Rattle.chart.specs.Choices.{chart_rules}
 use Rattle.chart.specs.Events.{chart_fits}
 use Rattle.chart.proofs.Firsts.{count_more, count_first}
@@ -11,8 +11,10 @@ returns-then-cut_fits-clause-first g c test es h =
     let a = c.args in
     let all : a.start + a.count ≤ length es = omega (arith, h.many, c.requires.part) in
     let p = fits_after (chart_rules k) (chart_fits test k) a.left a.right es a.start a.count all in
+    let said = sym (c.cut_fits.ensures test es h) in
+    let fits : p c.loop-cut.cut ≡ true = search (said, c.if-cut_fits.true) in
     cut_first (chart_rules k) (chart_fits test k) a.left a.right es a.start a.count all c.loop-cut.cut
-    (count_first p c.loop-cut.cut a.count (omega arith) (omega (arith, c.loop-cut-test.true)) (c.loop-cut.invariant test es h) (sym (c.cut_fits.ensures test es h) ∙ c.if-cut_fits.true))
+    (count_first p c.loop-cut.cut a.count (omega arith) (omega (arith, c.loop-cut-test.true)) (c.loop-cut.invariant test es h) fits)
 
 pub loop-cut-preserved : goal.loop-cut-preserved
 loop-cut-preserved g c test es h =

@@ -6,6 +6,8 @@ use Rattle.grammar.specs.Taken.{Takes}
 use Rattle.grammar.proofs.Totals.{takes_one}
 use Rattle.chart.specs.Events.{chart_book, chart_fits}
 use Rattle.book.specs.Rules.{rules_book}
+use Rattle.grammar.specs.Lists.{span}
+use Rattle.chart.specs.Writing.{Stands}
 use Rattle.chart.specs.Nodes.{nodes_of, Wrote}
 use Rattle.chart.specs.Readings.{reading_answer, ReadingIs}
 use Rattle.chart.proofs.OfBook.{book_sound}
@@ -42,12 +44,16 @@ returns-clause-means g c es h =
           let none : length es ≡ 0 = h.many ∙ w.if-chart-eq0.true in
           let null = nothing_read W S fits es none (sym told.is_total ∙ yes) in
           let same = w.converted.ensures in
-          let wrote = w.write_blank.ensures.wrote t [] (omega arith) (subst (λ v. nullable (binarised (rules_book v.rules)) 0 ≡ true) (sym same) null) begun in
+          let low : 0 < 32 = omega arith in
+          let empty : nullable (binarised (rules_book w.converted.result.now.rules)) 0 ≡ true = subst (λ v. nullable (binarised (rules_book v.rules)) 0 ≡ true) (sym same) null in
+          let wrote : Wrote t (tree_nodes 0 (nullable_tree (binarised (rules_book w.converted.result.now.rules)) 0)) w.write_blank.new.table = search (w.write_blank.ensures.wrote t [], low, empty, begun) in
           means_read W S fits es t r _ _ _ some.1 (ap (λ v. tree_nodes 0 (nullable_tree (binarised (rules_book v.rules)) 0)) same ∙ nodes_nothing W S fits r es none some.1)
           (c.answer.ensures t _ (subst (Wrote t _) (sym w.table-is) wrote)) (subst (Wrote t _) (sym w.table-is) wrote).places
       | else-chart-eq0 w ↦
           let taken = nodes_taken W S fits r es (omega (arith, h.many, w.if-chart-eq0.false)) some.1 in
-          let wrote = w.write_symbol.ensures.wrote t [] (inl (omega arith)) g.A.Alphabet.test es h (binarise W r) (subst (Takes (binarised W) fits 0 (binarise W r)) (sym (whole_span W S fits es k.events h.many)) taken.0) begun in
+          let whole : Takes (binarised W) fits 0 (binarise W r) (span es 0 k.events) = subst (Takes (binarised W) fits 0 (binarise W r)) (sym (whole_span W S fits es k.events h.many)) taken.0 in
+          let stands : Stands (binarised W) 0 [] = inl (omega arith) in
+          let wrote : Wrote t (tree_nodes 0 (binarise W r)) w.write_symbol.new.table = search (w.write_symbol.ensures.wrote t [] stands g.A.Alphabet.test es h, whole, begun) in
           means_read W S fits es t r _ _ _ some.1 taken.1 (c.answer.ensures t _ (subst (Wrote t _) (sym w.table-is) wrote)) (subst (Wrote t _) (sym w.table-is) wrote).places
     ] in
     let same_name : c.if-chart-eq0.table.nodes.ghost_name ≡ c.of-table.result.nodes.ghost_name = elim c.if-chart-eq0.branch [

@@ -148,9 +148,12 @@ write_parts-returns-in-Left-clause-wrote g t c t' ks x at over test es h s taken
     let leads = subst (λ d. Leads B x u.number d u.to) d there.1 in
     let whole = subst (λ d. Takes B fits x (step_over B x u.number d step_taken.0) w) d step_taken.2 in
     let rest : drop 1 a.items.now ≡ c.in-Some.rest.now = ap (drop 1) c.in-Some.ensures.cases.0 in
-    let first = subst (λ (q : Converted). nullable (binarised (rules_book q.rules)) y ≡ true
-    → Wrote t' (ks ++ tree_nodes a.start (nullable_tree (binarised (rules_book q.rules)) y)) c.write_blank.new.table)
-    c.converted-converted.ensures (λ n. c.write_blank.ensures.wrote t' ks (over_left W S x u.number a.items.now below y u.to leads.0 leads.1) n wrote) leads.1 in
+    let held = c.converted-converted in
+    let null : nullable (binarised (rules_book held.result.now.rules)) y ≡ true = subst (λ (q : Converted). nullable (binarised (rules_book q.rules)) y ≡ true) (sym held.ensures) leads.1 in
+    let low = over_left W S x u.number a.items.now below y u.to leads.0 leads.1 in
+    let blank : Wrote t' (ks ++ tree_nodes a.start (nullable_tree (binarised (rules_book held.result.now.rules)) y)) c.write_blank.new.table =
+    search (c.write_blank.ensures.wrote, low, null, wrote) in
+    let first = subst (λ (q : Converted). Wrote t' (ks ++ tree_nodes a.start (nullable_tree (binarised (rules_book q.rules)) y)) c.write_blank.new.table) held.ensures blank in
     let second = c.write_symbol-in-Left.ensures.wrote t' (ks ++ tree_nodes a.start (nullable_tree B y))
     (subst (Stands B u.to) rest (over_binary W S x u.number a.items.now below y u.to leads.0).1) test es h step_taken.0 step_taken.1 first in
     subst (λ l. Wrote t' l c.write_symbol-in-Left.new.table)
