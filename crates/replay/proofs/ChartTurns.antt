@@ -1,5 +1,6 @@
 -- The calls of a chart in turn.
 use Rattle.std.proofs.Common.{◌≡◌, ℕ, ◌+◌, ◌<◌, Bool, List, [], ◌∷◌, ◌++◌, map, take, set, length, get_or, ap, subst, sym, ◌∙◌}
+use Rattle.std.proofs.lemmas.List.{take_more, map-append}
 use Rattle.std.proofs.lemmas.List.Sums.{fold_push}
 use Rattle.grammar.specs.Semiring.{Ops}
 use Rattle.book.specs.declared.alphabet.Alphabet.{Ghosts}
@@ -12,7 +13,7 @@ use Rattle.replay.specs.declared.answer.Answer.{Answer}
 use Rattle.replay.specs.declared.call.ChartCall.{ChartCall}
 use Rattle.replay.specs.Calls.{chart_call_of}
 use Rattle.replay.specs.Answers.{said, chart_answer}
-use Rattle.replay.proofs.InTurn.{Made, made_more, more_views}
+use Rattle.replay.proofs.InTurn.{Made, made_more}
 
 -- one call more
 held_more : {E : Type 0} (S m : ℕ) (calls : List (Called E)) (c : Called E) → held_events S m (calls ++ (c ∷ [])) ≡ after S m (held_events S m calls) c
@@ -20,8 +21,12 @@ unfolding held_events
 held_more S m calls c = fold_push (after S m) [] calls c
 
 -- the first k calls
-abbrev views : {E : Type 0} → List (ChartCall E) → ℕ → List (Called E)
+abbrev pub views : {E : Type 0} → List (ChartCall E) → ℕ → List (Called E)
 views calls k = map chart_call_of (take k calls)
+
+-- and one more
+pub next_views : {E : Type 0} (calls : List (ChartCall E)) (k : ℕ) (d x : ChartCall E) → k < length calls → get_or calls k d ≡ x → views calls (k + 1) ≡ views calls k ++ (chart_call_of x ∷ [])
+next_views calls k d x lt e = ap (map chart_call_of) (take_more calls k d lt ∙ ap (λ y. take k calls ++ (y ∷ [])) e) ∙ map-append chart_call_of (take k calls) (x ∷ [])
 
 -- the first k calls were made on a chart that was cut over a table of m weights, S to a cell
 pub record ChartMade {A K E P V U : Type 0} {G : Ghosts A E P} {H : Weighings K V U} {B : Banks U V} (M : Ops V) (test : P → E → Bool) (S m : ℕ) (calls : List (ChartCall E)) (k : ℕ) (answers : List Answer) (c : Chart A K E P V U G H B) : Type 0 where
@@ -37,7 +42,7 @@ module _ {A K E P V U : Type 0} {G : Ghosts A E P} {H : Weighings K V U} {B : Ba
       → length is.weights.now ≡ length was.weights.now → is.book ≡ was.book → ChartMade M test S m calls (k + 1) (set answers k r) is
   chart_more S m calls k answers was is d x r h lt room e says runs long book =
       let c = chart_call_of x in
-      let more = more_views (after S m) (λ held. chart_answer S m (length held)) chart_call_of calls k d x lt e in
+      let more = next_views calls k d x lt e in
       let many : length (held_events S m (views calls k)) ≡ was.events =
       sym (ap (λ s. length (held_events s m (views calls k))) h.symbols) ∙ sym (ap (λ n. length (held_events (chart_symbols was) n (views calls k))) h.long) ∙ h.holds.many in
       record {

@@ -18,7 +18,7 @@ module _ {S C : Type 0} (after : S → C → S) (answer : S → C → Saying) wh
       pub says : map said (take k answers) ≡ in_turn after answer s (map view (take k calls))
       pub leads : fold after s (map view (take k calls)) ≡ now
 
-    pub more_views : (calls : List X) (k : ℕ) (d x : X) → k < length calls → get_or calls k d ≡ x → map view (take (k + 1) calls) ≡ map view (take k calls) ++ (view x ∷ [])
+    more_views : (calls : List X) (k : ℕ) (d x : X) → k < length calls → get_or calls k d ≡ x → map view (take (k + 1) calls) ≡ map view (take k calls) ++ (view x ∷ [])
     more_views calls k d x h e = ap (map view) (take_more calls k d h ∙ ap (λ y. take k calls ++ (y ∷ [])) e) ∙ map-append view (take k calls) (x ∷ [])
 
     pub made_more : (s : S) (calls : List X) (k : ℕ) (answers : List Answer) (now is : S) (d x : X) (r : Answer) → Made s calls k answers now → k < length calls → k < length answers

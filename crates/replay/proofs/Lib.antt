@@ -2,3 +2,4 @@ pub mod InTurn
 pub mod BookTurns
 pub mod ChartTurns
 pub mod Replaying
+pub mod Leaving

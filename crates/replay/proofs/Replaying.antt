@@ -5,7 +5,7 @@ use Rattle.grammar.specs.Semiring.{Ops}
 use Rattle.grammar.specs.Binarise.{binarised}
 use Rattle.book.specs.declared.alphabet.Alphabet.{Ghosts}
 use Rattle.book.specs.declared.books.ClosedBook.{ClosedBook}
-use Rattle.book.specs.Books.{closed_book, closed_held}
+use Rattle.book.specs.Books.{closed_book, closed_fits, closed_held}
 use Rattle.book.specs.Fits.{table_fits}
 use Rattle.book.specs.Offers.{book}
 use Rattle.weighing.specs.declared.weighing.Weighing.{Ghosts as Weighings}
@@ -18,6 +18,12 @@ use Rattle.chart.specs.Runs.{ChartCall as Called, held_events, HoldsAfter}
 pub book_is : {A E P : Type 0} {G : Ghosts A E P} (b : ClosedBook A E P G) (patterns : List P) (rules : List Production) → b.table.patterns.now ≡ patterns → closed_held b ≡ rules
     → closed_book b ≡ book (length patterns) rules
 book_is b patterns rules e h = ap (λ n. book n (closed_held b)) (b.over ∙ ap length e) ∙ ap (book (length patterns)) h
+
+-- what is said of a closed book is said of its rules over its patterns
+pub of_book : {A E P : Type 0} {G : Ghosts A E P} (test : P → E → Bool) (X : Book → (E → ℕ → Bool) → Type 0) (b : ClosedBook A E P G) (patterns : List P) (rules : List Production)
+    → b.table.patterns.now ≡ patterns → closed_held b ≡ rules → X (closed_book b) (closed_fits test b) → X (book (length patterns) rules) (table_fits test patterns)
+of_book test X b patterns rules table held said =
+    subst (λ W. X W (table_fits test patterns)) (book_is b patterns rules table held) (subst (X (closed_book b)) (ap (table_fits test) table) said)
 
 module _ {A K E P V U : Type 0} {G : Ghosts A E P} {H : Weighings K V U} {B : Banks U V} (M : Ops V) (test : P → E → Bool) where
   -- what is said of any events that the chart holds is said of those of the calls

@@ -7,6 +7,8 @@ ghost use Rattle.chart.specs.Totals.{Explained};
 ghost use Rattle.chart.specs.Nodes.{nodes_of};
 ghost use Rattle.chart.specs.Readings.{reading_answer, ReadingIs};
 ghost use Rattle.replay.specs.Answers.{said};
+ghost use Rattle.replay.specs.Calls.{chart_call_of};
+ghost use Rattle.replay.specs.Leavings.{Leaves};
 ghost use Rattle.replay.specs.Replays.{replayed_book, replayed_events, replayed_answers};
 
 use crate::answer::Answer;
@@ -42,6 +44,7 @@ pub fn replay_reading<A: Alphabet>(
     ensures explained { IfOk result (λ r. Explained (replayed_book table.entry.patterns.now book_calls.now) (table_fits A.Alphabet.test table.entry.patterns.now) (replayed_events table.entry.patterns.now book_calls.now (length weights.old) chart_calls.now) r.verdict) }
     ensures reading { IfOk result (λ r. ReadingIs (replayed_book table.entry.patterns.now book_calls.now) (table_fits A.Alphabet.test table.entry.patterns.now) (replayed_events table.entry.patterns.now book_calls.now (length weights.old) chart_calls.now) (nodes_of nodes.old) (reading_answer r.reading) (nodes_of nodes.new)) }
     ensures chart { IfOk result (λ _. HoldsChart (replayed_book table.entry.patterns.now book_calls.now) yes_no (table_fits A.Alphabet.test table.entry.patterns.now) (replayed_events table.entry.patterns.now book_calls.now (length weights.old) chart_calls.now) weights.new) }
+    ensures leaves { IfOk result (λ _. Leaves (replayed_book table.entry.patterns.now book_calls.now) yes_no (table_fits A.Alphabet.test table.entry.patterns.now) (map chart_call_of chart_calls.now) weights.old weights.new) }
     ensures answers { IfOk result (λ _. map said answers.new ≡ replayed_answers table.entry.patterns.now book_calls.now (length weights.old) chart_calls.now) }
     ensures refused { IsErr result ↔ (length answers.old ≢ length book_calls.now + length chart_calls.now) }
     ensures stands { IsErr result → (answers.new ≡ answers.old) × (weights.new ≡ weights.old) × (nodes.new ≡ nodes.old) }

@@ -4,6 +4,8 @@ ghost use Rattle.book.specs.Fits.{table_fits, TestsTable};
 ghost use Rattle.chart.specs.Charts.{HoldsChart};
 ghost use Rattle.chart.specs.Totals.{TotalIs};
 ghost use Rattle.replay.specs.Answers.{said};
+ghost use Rattle.replay.specs.Calls.{chart_call_of};
+ghost use Rattle.replay.specs.Leavings.{Leaves};
 ghost use Rattle.replay.specs.Replays.{replayed_book, replayed_events, replayed_answers};
 
 use crate::answer::Answer;
@@ -40,6 +42,7 @@ pub fn replay<A: Alphabet, W: Weighing>(
 ) -> Result<W::Value, ReplayFault>
     ensures total { IfOk result (λ r. TotalIs (replayed_book table.entry.patterns.now book_calls.now) W.Weighing.ops (table_fits A.Alphabet.test table.entry.patterns.now) (replayed_events table.entry.patterns.now book_calls.now (length weights.old) chart_calls.now) r) }
     ensures chart { IfOk result (λ _. HoldsChart (replayed_book table.entry.patterns.now book_calls.now) W.Weighing.ops (table_fits A.Alphabet.test table.entry.patterns.now) (replayed_events table.entry.patterns.now book_calls.now (length weights.old) chart_calls.now) weights.new) }
+    ensures leaves { IfOk result (λ _. Leaves (replayed_book table.entry.patterns.now book_calls.now) W.Weighing.ops (table_fits A.Alphabet.test table.entry.patterns.now) (map chart_call_of chart_calls.now) weights.old weights.new) }
     ensures answers { IfOk result (λ _. map said answers.new ≡ replayed_answers table.entry.patterns.now book_calls.now (length weights.old) chart_calls.now) }
     ensures refused { IsErr result ↔ (length answers.old ≢ length book_calls.now + length chart_calls.now) }
     ensures stands { IsErr result → (answers.new ≡ answers.old) × (weights.new ≡ weights.old) }
