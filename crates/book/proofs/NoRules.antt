@@ -9,7 +9,8 @@ use Rattle.grammar.specs.Binarised.{terminal, OwnRule, rules_in, rules_of}
 use Rattle.grammar.specs.Nullable.{nullable}
 use Rattle.grammar.specs.Chains.{steps_by, steps, within, reached}
 use Rattle.grammar.specs.Strict.{strict_rule, proper, strict_rules_of, strict_rules}
-use Rattle.grammar.specs.Binarise.{terminal_rule, binarised, Admitted}
+use Rattle.grammar.specs.Binarise.{binarised, Admitted}
+use Rattle.grammar.proofs.Short.{terminal_rule}
 use Rattle.conversion.proofs.Found.{within_none}
 
 -- at most c for each

@@ -7,7 +7,8 @@ use Rattle.grammar.specs.Lists.{Mem, First, Cut, some_of, cuts, count_up, span}
 use Rattle.grammar.specs.Binarised.{Right, unit, binary, terminal, Binarised, Bounded, Has, Tree, leaf, fork}
 use Rattle.grammar.specs.Chains.{ChainStep, Leads, UnitChain, nothing, the_right, the_left, chosen_chain}
 use Rattle.grammar.specs.Strict.{StrictFormRule, proper, strict_rules, strict_rules_of}
-use Rattle.grammar.specs.Taken.{step_over, chain_over, each_yes, yes_cell, rule_fits, cut_fits, Takes, takes_terminal, takes_binary}
+use Rattle.grammar.specs.Taken.{step_over, chain_over, yes_cell, rule_fits, cut_fits, Takes, takes_terminal, takes_binary}
+use Rattle.grammar.proofs.Short.{each_yes}
 use Rattle.grammar.specs.Cells.{over_events}
 use Rattle.grammar.specs.Weighings.{yes_no}
 use Rattle.grammar.specs.Productions.{Book, Sound}

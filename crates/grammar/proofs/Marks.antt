@@ -4,7 +4,8 @@ use Rattle.std.proofs.lemmas.Bool.{lt-ltb, le-ltb, cond-true, cond-false}
 use Rattle.grammar.specs.Binarised.{Tree, width}
 use Rattle.grammar.specs.Productions.{Book, head_of, right_of, first_tail, Sound}
 use Rattle.grammar.specs.Readings.{Reading, Parts, Reads, by_rule, Along, at_end, at_event, at_part}
-use Rattle.grammar.specs.Binarise.{forks, shape, binarise, binarise_parts}
+use Rattle.grammar.specs.Binarise.{forks, binarise, binarise_parts}
+use Rattle.grammar.proofs.Short.{shape}
 use Rattle.grammar.specs.Nodes.{events, events_in, Node, nodes, nodes_in, mark, tree_nodes}
 use Rattle.grammar.proofs.BinarisedRules.{head_small}
 use Rattle.grammar.proofs.Binarise.{two, two_shape}

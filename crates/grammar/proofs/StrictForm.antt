@@ -2,15 +2,16 @@
 use Rattle.std.proofs.Common.{◌≡◌, ℕ, zero, ◌<◌, Bool, true, false, cond, ◌⊎◌, ◌↔◌, List, [], ◌∷◌, ◌++◌, map, length, sym, refl, ap, subst, inl, inr, true≢false, arith, length-append}
 use Rattle.grammar.specs.Lists.{cuts, Mem, those, below}
 use Rattle.grammar.specs.Binarised.{Right, empty, unit, binary, terminal, rule, Has, OwnRule, rules_of, Rule, Binarised, Bounded, Tree, fork, leaf, Derives, by_empty, by_unit, by_binary, by_terminal}
-use Rattle.grammar.specs.Strict.{StrictFormRule, strict_rule, strict_rules_of, strict_rules, proper, as_rule, strict_form}
+use Rattle.grammar.specs.Strict.{StrictFormRule, strict_rule, strict_rules_of, strict_rules, proper, strict_form}
+use Rattle.grammar.proofs.Short.{as_rule, rule_production}
 use Rattle.grammar.specs.Chains.{reached, chosen_chain}
 use Rattle.grammar.specs.Cells.{over_events}
 use Rattle.grammar.specs.Weighings.{yes_no}
 use Rattle.grammar.specs.Taken.{cut_fits, yes_cell, rule_fits, Takes, takes_terminal, takes_binary}
 use Rattle.grammar.specs.Productions.{Book, Sound}
 use Rattle.grammar.specs.Binarise.{binarise, binarised, Within}
-use Rattle.grammar.specs.Promises.{StrictForm, StrictLanguage}
-use Rattle.grammar.specs.Grammars.{InStrictForm, TwoNonterminals, OneTerminal, right_symbols, rule_production, strict_grammar}
+use Rattle.grammar.specs.Promises.{StrictLanguage}
+use Rattle.grammar.specs.Grammars.{InStrictForm, TwoNonterminals, OneTerminal, right_symbols, strict_grammar}
 use Rattle.grammar.proofs.Lists.{mem_map, map_mem, each_mem, mem_each, those_mem, count_up_mem, mem_below, cuts_mem}
 use Rattle.grammar.proofs.Nullable.{rule_has}
 use Rattle.grammar.proofs.Chains.{chain_leads}
@@ -183,5 +184,5 @@ module _ (W : Book) (S : Sound W) {E : Type 0} (fits : E → ℕ → Bool) where
     );
   }
 
-pub strict_forms : (E : Type 0) → StrictForm E
+pub strict_forms : (E : Type 0) → (W : Book) → Sound W → (fits : E → ℕ → Bool) → StrictLanguage W fits
 strict_forms E W S fits = strict_language W S fits

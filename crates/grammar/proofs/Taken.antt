@@ -9,7 +9,8 @@ use Rattle.grammar.specs.Binarised.{Right, empty, unit, binary, terminal, Binari
 use Rattle.grammar.specs.Nullable.{nullable_tree}
 use Rattle.grammar.specs.Chains.{Dropped, nothing, the_right, the_left, ChainStep, chosen_chain, reached}
 use Rattle.grammar.specs.Strict.{StrictFormRule, strict_rules_of, strict_rule, proper}
-use Rattle.grammar.specs.Taken.{chain_over, each_yes, yes_cell, rule_fits, cut_fits, Takes, takes_terminal, takes_binary}
+use Rattle.grammar.specs.Taken.{chain_over, yes_cell, rule_fits, cut_fits, Takes, takes_terminal, takes_binary}
+use Rattle.grammar.proofs.Short.{each_yes}
 use Rattle.grammar.specs.Semiring.{Semiring, sum}
 use Rattle.grammar.specs.Cells.{tree_weight, drop_weight, chain_weight, over_events, cell_in, cell}
 use Rattle.grammar.specs.Weighings.{yes_no}

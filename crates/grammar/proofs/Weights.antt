@@ -4,7 +4,8 @@ use Rattle.std.proofs.lemmas.Bool.{lt-ltb, le-ltb}
 use Rattle.grammar.specs.Binarised.{Tree}
 use Rattle.grammar.specs.Productions.{Book, head_of, right_of, cost_of, first_tail, Sound}
 use Rattle.grammar.specs.Readings.{Reading, Parts, Reads, by_rule, Along, at_end, at_event, at_part}
-use Rattle.grammar.specs.Binarise.{forks, shape, binarise, binarise_parts}
+use Rattle.grammar.specs.Binarise.{forks, binarise, binarise_parts}
+use Rattle.grammar.proofs.Short.{shape}
 use Rattle.grammar.specs.Semiring.{Ops, Semiring, product}
 use Rattle.grammar.specs.Cells.{tree_weight}
 use Rattle.grammar.specs.Nodes.{nodes}

@@ -1,7 +1,7 @@
 -- Unit steps, unit chains, and the chosen chain from a symbol to a symbol.
 use Rattle.std.specs.Prelude.{◌≡◌, ℕ, zero, suc, ◌<◌, ◌≤◌, Bool, true, cond, ◌||◌, ◌⊎◌, List, [], ◌∷◌, ◌++◌, length, ◌==◌}
 use Rattle.grammar.specs.Lists.{some_of, first_of, those, each, below}
-use Rattle.grammar.specs.Binarised.{Right, empty, unit, binary, terminal, Binarised, Has, OwnRule, rules_of}
+use Rattle.grammar.specs.Binarised.{Right, unit, binary, Binarised, Has, OwnRule, rules_of}
 use Rattle.grammar.specs.Nullable.{nullable}
 
 -- what a unit step drops: nothing, the nullable right symbol of a binary rule, or the left
@@ -34,10 +34,9 @@ UnitChain B x (s ∷ c) y = (s.from ≡ x) × Leads B s.from s.number s.dropped 
 
 -- the unit steps of one rule of x: the left symbol kept comes before the right kept
 abbrev pub steps_by : (ℕ → Bool) → ℕ → ℕ → Right → List ChainStep
-steps_by b x n empty = []
 steps_by b x n (unit y) = unit_step x n nothing y ∷ []
 steps_by b x n (binary y z) = cond (b z) (unit_step x n (the_right z) y ∷ []) [] ++ cond (b y) (unit_step x n (the_left y) z ∷ []) []
-steps_by b x n (terminal p) = []
+steps_by b x n _ = []
 
 -- the unit steps from x, in order
 unfoldable pub steps : Binarised → ℕ → List ChainStep
@@ -72,9 +71,8 @@ reached B x = those (λ y. within B y B.symbols x) (below B.symbols)
 
 -- which symbol of a binary rule a step keeps: 0 for the left (or where there is but one), 1 for the right
 abbrev pub side : Dropped → ℕ
-side nothing = 0
-side (the_right z) = 0
 side (the_left z) = 1
+side _ = 0
 
 -- of two steps from one symbol the first is the lower: by number, then the left symbol kept before the right kept
 abbrev pub Lower : ChainStep → ChainStep → Type 0

@@ -8,6 +8,10 @@ pub record Production : Type 0 where
   pub right : List ℕ
   pub cost : ℕ
 
+-- the production of a head, a right side and a cost
+abbrev pub written : ℕ → List ℕ → ℕ → Production
+written h right c = record { head = h; right = right; cost = c }
+
 -- the number of tails of a right side (the new symbols that cut it in two again and again): two fewer than its items, or none
 abbrev pub tails : List ℕ → ℕ
 tails [] = zero
@@ -24,9 +28,13 @@ pub record Book : Type 0 where
   pub productions : List Production
   pub patterns : ℕ
 
+-- the book of these productions over T patterns
+abbrev pub book : ℕ → List Production → Book
+book T ps = record { productions = ps; patterns = T }
+
 -- the book with one more production at the end
 abbrev pub offered : Book → Production → Book
-offered W p = record { productions = W.productions ++ (p ∷ []); patterns = W.patterns }
+offered W p = book W.patterns (W.productions ++ (p ∷ []))
 
 -- n is the number of a production
 abbrev pub Numbers : Book → ℕ → Type 0
@@ -34,7 +42,7 @@ Numbers W n = n < length W.productions
 
 -- production n. What stands for it where n is no production's number does not matter
 unfoldable pub production : Book → ℕ → Production
-production W n = slice_index_or W.productions n (record { head = zero; right = []; cost = zero })
+production W n = slice_index_or W.productions n (written zero [] zero)
 
 -- its head
 abbrev pub head_of : Book → ℕ → ℕ

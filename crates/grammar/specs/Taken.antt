@@ -19,13 +19,9 @@ abbrev pub chain_over : Binarised → List ChainStep → Tree → Tree
 chain_over B [] t = t
 chain_over B (s ∷ c) t = step_over B s.from s.number s.dropped (chain_over B c t)
 
--- each rule weighs yes
-abbrev pub each_yes : ℕ → ℕ → Bool
-each_yes x n = true
-
--- the yes/no cell of x over w
+-- the yes/no cell of x over w, where each rule weighs yes
 abbrev pub yes_cell : {E : Type 0} → Binarised → (E → ℕ → Bool) → ℕ → List E → Bool
-yes_cell B fits x w = cell B yes_no each_yes fits x w
+yes_cell B fits x w = cell B yes_no (λ y n. true) fits x w
 
 -- a strict rule fits w: its terminal fits the one event, or a cut has a derivation on each side
 abbrev pub rule_fits : {E : Type 0} → Binarised → (E → ℕ → Bool) → List E → StrictFormRule → Bool
