@@ -1,7 +1,7 @@
 -- What a feed and a withdrawal meet, and what they leave.
 use Rattle.std.specs.Prelude.{◌≡◌, ℕ, ◌+◌, ◌-◌, cond, Bool, List, [], ◌∷◌, ◌++◌, length, take, Ok, Err, Result, nat_lt}
 use Rattle.grammar.specs.Semiring.{Ops}
-pub use Rattle.grammar.specs.Rooms.{feed_refusal}
+pub use Rattle.grammar.specs.Cells.{feed_refusal}
 use Rattle.book.specs.declared.alphabet.Alphabet.{Ghosts}
 use Rattle.weighing.specs.declared.weighing.Weighing.{Ghosts as Weighings}
 use Rattle.weighing.specs.declared.bank.Bank.{Ghosts as Banks}

@@ -1,7 +1,7 @@
 -- Where the weights of a chart lie in its table of S symbols a cell, and what is written there.
 use Rattle.std.specs.Prelude.{◌≡◌, ℕ, ◌+◌, ◌*◌, ◌<◌, ◌≤◌, ◌⊎◌, List, slice_index_or}
 use Rattle.grammar.specs.Semiring.{Ops}
-pub use Rattle.grammar.specs.Rooms.{column_place}
+pub use Rattle.grammar.specs.Cells.{column_place}
 
 -- where the cell of start i begins in the column of event e
 abbrev pub cell_place : ℕ → ℕ → ℕ → ℕ

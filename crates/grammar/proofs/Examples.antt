@@ -7,7 +7,7 @@ use Rattle.grammar.specs.Binarised.{Right, binary, terminal, Binarised, rules_of
 use Rattle.grammar.specs.Nullable.{nullable_after, nullable, nullable_tree_in}
 use Rattle.grammar.specs.Strict.{StrictFormRule, strict_rules}
 use Rattle.grammar.specs.Weighings.{yes_no, counts}
-use Rattle.grammar.specs.Cells.{over_events, cell}
+use Rattle.grammar.specs.Cells.{over_events, cell, feed_refusal}
 use Rattle.grammar.specs.Taken.{Takes}
 use Rattle.grammar.specs.Nodes.{Node, tree_nodes}
 use Rattle.grammar.specs.Binarise.{binarised}
@@ -15,7 +15,6 @@ use Rattle.grammar.specs.Weights.{total_of}
 use Rattle.grammar.specs.PlainReadings.{Unread}
 use Rattle.grammar.specs.Answers.{of_nothing, of_events}
 use Rattle.grammar.specs.Examples.{book_a, book_b, book_c, book_d, book_e, at, HasNodes, HoldsEvents, Shown}
-use Rattle.grammar.specs.Rooms.{feed_refusal}
 use Rattle.grammar.proofs.Nullable.{nullable_derives}
 use Rattle.grammar.proofs.Theorems.{reading_plain}
 use Rattle.grammar.proofs.BinarisedRules.{binarised_bounded}

@@ -1,6 +1,6 @@
 -- Short names for parts of the definitions, for proofs alone.
-use Rattle.std.proofs.Common.{◌≡◌, ℕ, ◌+◌, Bool, true, false, cond, List, ◌++◌, map, length}
-use Rattle.grammar.specs.Lists.{Distinct, each, below}
+use Rattle.std.proofs.Common.{◌≡◌, ℕ, ◌+◌, ◌<◌, Bool, true, false, cond, List, ◌++◌, map, length}
+use Rattle.grammar.specs.Lists.{Distinct, Sorted, each, below}
 use Rattle.grammar.specs.Productions.{Production, Book, head_of, right_of, first_tail}
 use Rattle.grammar.specs.Binarised.{Right, terminal, Rule, rule, Binarised, Has, OwnRule, rules_of, Tree, leaf, root, bare}
 use Rattle.grammar.specs.Nullable.{nullable_tree}
@@ -62,3 +62,7 @@ written_production p = (p.head, map item_symbol p.right)
 -- the production of a grammar that a rule is
 abbrev pub rule_production : Rule → ℕ × List Symbol
 rule_production r = (r.left, right_symbols r.right)
+
+-- of the rules of one symbol each has a lower number than those after it
+abbrev pub Rising : List Rule → Type 0
+Rising = Sorted (λ r q. q.left ≡ r.left → r.number < q.number)

@@ -1,6 +1,6 @@
 -- The binarised form of a book, and of its readings.
-use Rattle.std.specs.Prelude.{◌≡◌, ℕ, suc, ◌+◌, ◌-◌, ◌<◌, ◌≤◌, Bool, true, false, cond, List, [], ◌∷◌, ◌++◌, map, length, nat_lt}
-use Rattle.grammar.specs.Lists.{Sorted, each, below}
+use Rattle.std.specs.Prelude.{ℕ, suc, ◌+◌, ◌-◌, ◌<◌, ◌≤◌, Bool, true, false, cond, List, [], ◌∷◌, ◌++◌, map, length, nat_lt}
+use Rattle.grammar.specs.Lists.{each, below}
 use Rattle.grammar.specs.Productions.{Sound, Book, head_of, right_of, first_tail, all_tails}
 use Rattle.grammar.specs.Binarised.{Right, empty, unit, binary, terminal, Rule, rule, Binarised, Tree, null, over, fork, leaf}
 use Rattle.grammar.specs.Strict.{strict_rules}
@@ -46,8 +46,7 @@ abbrev pub one_event : Parts → Bool
 one_event (event no_part) = true
 one_event _ = false
 
--- the binarised form of a reading: each production replaced by its binarised rules; one of one pattern stands over its event itself. Of
--- parts for the items ys: that of each
+-- the binarised form of a reading, each production replaced by its binarised rules; and of each of its parts for the items ys
 abbrev mutual
   pub binarise : Book → Reading → Tree
   binarise W (node n ps) = cond (one_event ps) (leaf (head_of W n) n)
@@ -59,10 +58,6 @@ abbrev mutual
   binarise_parts W (y ∷ ys) (event ps) = leaf y 255 ∷ binarise_parts W ys ps
   binarise_parts W [] (part r ps) = []
   binarise_parts W (y ∷ ys) (part r ps) = binarise W r ∷ binarise_parts W ys ps
-
--- of the rules of one symbol each has a lower number than those after it
-abbrev pub Rising : List Rule → Type 0
-Rising = Sorted (λ r q. q.left ≡ r.left → r.number < q.number)
 
 -- the symbols of a right side are below S, and its pattern is one of T
 abbrev pub Within : ℕ → ℕ → Right → Type 0

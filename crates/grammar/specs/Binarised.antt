@@ -45,8 +45,7 @@ rules_of B x = rules_in x B.rules
 abbrev pub Bounded : Binarised → Type 0
 Bounded B = (r : Rule) → Mem r B.rules → r.left < B.symbols
 
--- a derivation tree of binarised rules: at each node a symbol and the number of its rule. An empty rule stands over nothing, a unit
--- rule over one tree, a binary rule over two, a terminal rule over one event
+-- a derivation tree of binarised rules: at each node a symbol and the number of its rule, which is empty, unit, binary or a terminal rule
 pub data Tree : Type 0 where
   null : ℕ → ℕ → Tree
   over : ℕ → ℕ → Tree → Tree

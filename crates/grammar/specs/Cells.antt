@@ -1,9 +1,9 @@
 -- Weights of trees and of strict rules, and the cells of a chart: what the derivations of some events from a symbol weigh.
-use Rattle.std.specs.Prelude.{ℕ, zero, suc, Bool, true, false, cond, List, [], ◌∷◌, length}
+use Rattle.std.specs.Prelude.{ℕ, zero, suc, ◌+◌, ◌-◌, ◌*◌, ◌/◌, Bool, true, false, cond, ◌||◌, List, [], ◌∷◌, length, ◌==◌, nat_lt}
 use Rattle.grammar.specs.Lists.{cuts}
 use Rattle.grammar.specs.Semiring.{Ops, sum}
-use Rattle.grammar.specs.Binarised.{Right, binary, terminal, Binarised, Tree, null, over, fork, leaf}
 use Rattle.grammar.specs.Nullable.{nullable, nullable_tree}
+use Rattle.grammar.specs.Binarised.{Right, binary, terminal, Binarised, Tree, null, over, fork, leaf}
 use Rattle.grammar.specs.Chains.{ChainStep, Dropped, nothing, the_right, the_left, chosen_chain}
 use Rattle.grammar.specs.Strict.{StrictFormRule, strict_rules_of}
 
@@ -51,7 +51,6 @@ abbrev pub terminal_fits : {E : Type 0} → (E → ℕ → Bool) → E → Right
 terminal_fits fits e (terminal p) = fits e p
 terminal_fits fits e _ = false
 
--- the right side is two symbols
 abbrev pub is_binary : Right → Bool
 is_binary (binary y z) = true
 is_binary _ = false
@@ -65,3 +64,11 @@ sides _ = (0, 0)
 abbrev pub total : {E : Type 0} → Binarised → {V : Type 0} (M : Ops V) → (ℕ → ℕ → V) → (E → ℕ → Bool) → ℕ → List E → V
 total B M wt fits x [] = cond (nullable B x) (tree_weight M wt (nullable_tree B x)) M.zero
 total B M wt fits x (e ∷ w) = cell B M wt fits x (e ∷ w)
+
+-- where the column of event e (counted from 1) begins, in a table of S symbols a cell
+abbrev pub column_place : ℕ → ℕ → ℕ
+column_place S e = e * (e - 1) / 2 * S
+
+-- the number of the refusal that a feed meets where n events are held over a table of m weights, S to a cell; 0 for none
+abbrev pub feed_refusal : ℕ → ℕ → ℕ → ℕ
+feed_refusal S m n = cond (n == 256 || nat_lt m (column_place S (n + 2))) 11 0

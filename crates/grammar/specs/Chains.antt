@@ -17,7 +17,6 @@ pub record ChainStep : Type 0 where
   pub dropped : Dropped
   pub to : ℕ
 
--- the step from x by rule n, that drops d, to y
 abbrev pub unit_step : ℕ → ℕ → Dropped → ℕ → ChainStep
 unit_step x n d y = record { from = x; number = n; dropped = d; to = y }
 
@@ -78,8 +77,7 @@ side _ = 0
 abbrev pub Lower : ChainStep → ChainStep → Type 0
 Lower s q = (s.number < q.number) ⊎ ((s.number ≡ q.number) × (side s.dropped < side q.dropped))
 
--- c is the chain chosen from x to y, where `chosen` gives that from each symbol on the way: it leads there, it has the fewest steps, its
--- first step is the lowest that begins such a chain, and the rest is the chain chosen from there
+-- c is the chain chosen from x to y: of the fewest steps, its first step the lowest that begins such a chain, the rest what `chosen` gives
 pub record IsChosen (B : Binarised) (y : ℕ) (chosen : ℕ → List ChainStep) (x : ℕ) (c : List ChainStep) : Type 0 where
   pub leads : UnitChain B x c y
   pub fewest : (d : List ChainStep) → UnitChain B x d y → length c ≤ length d

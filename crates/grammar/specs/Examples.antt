@@ -9,7 +9,7 @@ use Rattle.grammar.specs.Binarise.{binarised}
 use Rattle.grammar.specs.Weights.{total_of}
 use Rattle.grammar.specs.PlainReadings.{Unread}
 use Rattle.grammar.specs.Answers.{Taken}
-use Rattle.grammar.specs.Rooms.{feed_refusal}
+use Rattle.grammar.specs.Cells.{feed_refusal}
 
 -- 0 → a 0 b, 0 → a b
 abbrev pub book_a : Book

@@ -12,8 +12,7 @@ pub data Symbol : Type 0 where
   nonterminal : ℕ → Symbol
   letter : ℕ → Symbol
 
--- a grammar: how many nonterminals and how many terminals it has, each numbered from 0, and its productions, each a nonterminal and the
--- symbols that may stand for it
+-- a grammar: how many nonterminals and terminals it has, each numbered from 0; its productions, from a nonterminal to symbols
 pub record Grammar : Type 0 where
   pub nonterminals : ℕ
   pub terminals : ℕ
@@ -53,11 +52,9 @@ pub record Generates (G : Grammar) {E : Type 0} (fits : E → ℕ → Bool) (x :
   pub rewritten : Steps G (nonterminal x ∷ []) (map letter word)
   pub fit : Fit fits word w
 
--- two nonterminals
 abbrev pub TwoNonterminals : Grammar → List Symbol → Type 0
 TwoNonterminals G α = (y : ℕ) × ((z : ℕ) × (y < G.nonterminals) × (z < G.nonterminals) × (α ≡ nonterminal y ∷ nonterminal z ∷ []))
 
--- one terminal
 abbrev pub OneTerminal : Grammar → List Symbol → Type 0
 OneTerminal G α = (t : ℕ) × (t < G.terminals) × (α ≡ letter t ∷ [])
 
@@ -73,7 +70,6 @@ item_symbol y = cond (nat_lt y 32) (nonterminal y) (letter (y - 32))
 abbrev pub book_grammar : Book → Grammar
 book_grammar W = record { nonterminals = 32; terminals = W.patterns; productions = map (λ (p : Production). (p.head, map item_symbol p.right)) W.productions }
 
--- the right side of a rule, as symbols
 abbrev pub right_symbols : Right → List Symbol
 right_symbols empty = []
 right_symbols (unit y) = nonterminal y ∷ []
@@ -84,10 +80,8 @@ right_symbols (terminal t) = letter t ∷ []
 abbrev pub rules_grammar : ℕ → Binarised → Grammar
 rules_grammar T B = record { nonterminals = B.symbols; terminals = T; productions = map (λ (r : Rule). (r.left, right_symbols r.right)) B.rules }
 
--- the grammar of a book's binarised rules
 abbrev pub binarised_grammar : Book → Grammar
 binarised_grammar W = rules_grammar W.patterns (binarised W)
 
--- the grammar of a book's strict rules
 abbrev pub strict_grammar : Book → Grammar
 strict_grammar W = rules_grammar W.patterns (strict_form (binarised W))

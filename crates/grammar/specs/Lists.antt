@@ -38,7 +38,6 @@ count_up a (suc n) = a ∷ count_up (suc a) n
 abbrev pub below : ℕ → List ℕ
 below n = count_up zero n
 
--- a cut: a left part and a right part
 abbrev pub Cut : Type 0 → Type 0
 Cut E = List E × List E
 

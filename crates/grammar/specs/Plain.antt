@@ -37,8 +37,7 @@ pub data Starts (t s : Tree) : Type 0 where
   on_left : (x n : ℕ) (r : Tree) → Part (fork x n t r) s → (bare t ≡ false) × (bare r ≡ false) → Starts t s
   on_right : (x n : ℕ) (r : Tree) → Part (fork x n r t) s → (bare r ≡ false) × (bare t ≡ false) → Starts t s
 
--- a plain tree: each part without events is the chosen tree of its root, and each longest run of unit steps between symbols that
--- have events is the chosen chain between its ends
+-- a plain tree: each part without events is its root's chosen tree, and each longest run of unit steps the chosen chain between its ends
 pub record Plain (B : Binarised) (s : Tree) : Type 0 where
   pub null_parts : (t : Tree) → Part t s → bare t ≡ true → t ≡ nullable_tree B (root t)
   pub runs : (t : Tree) → Starts t s → bare t ≡ false → run t ≡ chosen_chain B (root t) (root (core t))

@@ -25,7 +25,6 @@ strict_rule x y o = record { symbol = x; end = y; number = o.0; right = o.1 }
 unfoldable pub strict_rules_of : Binarised → ℕ → List StrictFormRule
 strict_rules_of B x = each (λ y. map (strict_rule x y) (those (λ (o : OwnRule). proper o.1) (rules_of B y))) (reached B x)
 
--- all strict rules, by symbol
 unfoldable pub strict_rules : Binarised → List StrictFormRule
 strict_rules B = each (strict_rules_of B) (below B.symbols)
 

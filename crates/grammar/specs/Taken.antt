@@ -14,7 +14,6 @@ step_over B x n nothing t = over x n t
 step_over B x n (the_right z) t = fork x n t (nullable_tree B z)
 step_over B x n (the_left y) t = fork x n (nullable_tree B y) t
 
--- a unit chain over a tree
 abbrev pub chain_over : Binarised → List ChainStep → Tree → Tree
 chain_over B [] t = t
 chain_over B (s ∷ c) t = step_over B s.from s.number s.dropped (chain_over B c t)
