@@ -29,7 +29,3 @@ ChainsWithin B n c = (x y : ℕ) → x < 128 → y < 128 → ChosenWhere B (with
 -- whether a chain leads from x to y, and the chosen one
 abbrev pub Chosen : Binarised → ℕ → ℕ → Option Chain → Type 0
 Chosen B x y o = ChosenWhere B (within B y B.symbols x) x y o
-
--- the table of the chosen chains
-abbrev pub ChosenChains : Binarised → Chains → Type 0
-ChosenChains B c = (x y : ℕ) → x < 128 → y < 128 → Chosen B x y (link c x y)

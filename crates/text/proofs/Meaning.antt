@@ -7,7 +7,8 @@ use Rattle.grammar.specs.Lists.{Mem}
 use Rattle.grammar.specs.Productions.{Production}
 use Rattle.grammar.proofs.Lists.{mem_append}
 use Rattle.text.specs.Kinds.{Kind, arrow, blank, head, pattern, cost, unknown, kind}
-use Rattle.text.specs.Outcomes.{rule, written, head_of, item_of, cost_of, is_arrow, is_blank, by, misplaced, no_more, cost_part, item_part, right_part, arrow_part, line, kinds, item_kind, right_kinds, Writable, front_kinds, Says, Begins, Means}
+use Rattle.text.specs.Outcomes.{rule, written, head_of, item_of, cost_of, is_arrow, is_blank, misplaced, no_more, cost_part, item_part, right_part, arrow_part, line, kinds, item_kind, right_kinds, Writable, front_kinds, Says, Begins, Means}
+use Rattle.text.proofs.Short.{by}
 use Rattle.text.specs.Words.{Piece}
 
 -- Kinds told apart

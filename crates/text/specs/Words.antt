@@ -28,7 +28,6 @@ ends_line b = b == 10
 abbrev pub parts : ℕ → Bool
 parts b = b == 32 || b == 10
 
--- the lines of a text
 abbrev pub lines : ℕ → List ℕ → List Piece
 lines at text = pieces ends_line at text
 
@@ -41,11 +40,8 @@ some_byte (b ∷ bs) = true
 abbrev pub words : ℕ → List ℕ → List Piece
 words at text = those (λ (p : Piece). some_byte p.bytes) (pieces parts at text)
 
--- the words of a line
 abbrev pub line_words : Piece → List Piece
 line_words l = words l.place l.bytes
-
--- Laws
 
 -- each byte passes the test, or fails it
 abbrev pub AllAre : (ℕ → Bool) → Bool → List ℕ → Type 0
