@@ -1,9 +1,8 @@
 -- The binarised form of a book, and of its readings.
 use Rattle.std.specs.Prelude.{ℕ, suc, ◌+◌, ◌-◌, ◌<◌, ◌≤◌, Bool, true, false, cond, List, [], ◌∷◌, ◌++◌, map, length, nat_lt}
-use Rattle.grammar.specs.Lists.{each, below}
+use Rattle.grammar.specs.{Lists.each, Lists.below, Strict.strict_rules}
 use Rattle.grammar.specs.Productions.{Sound, Book, head_of, right_of, first_tail, all_tails}
 use Rattle.grammar.specs.Binarised.{Right, empty, unit, binary, terminal, Rule, rule, Binarised, Tree, null, over, fork, leaf}
-use Rattle.grammar.specs.Strict.{strict_rules}
 use Rattle.grammar.specs.Readings.{Reading, Parts, node, no_part, event, part}
 
 -- the right side of a production of one item: a head gives a unit rule, a pattern a terminal rule

@@ -1,8 +1,6 @@
 -- Weights of trees and of strict rules, and the cells of a chart: what the derivations of some events from a symbol weigh.
 use Rattle.std.specs.Prelude.{ℕ, zero, suc, ◌+◌, ◌-◌, ◌*◌, ◌/◌, Bool, true, false, cond, ◌||◌, List, [], ◌∷◌, length, ◌==◌, nat_lt}
-use Rattle.grammar.specs.Lists.{cuts}
-use Rattle.grammar.specs.Semiring.{Ops, sum}
-use Rattle.grammar.specs.Nullable.{nullable, nullable_tree}
+use Rattle.grammar.specs.{Lists.cuts, Semiring.Ops, Semiring.sum, Nullable.nullable, Nullable.nullable_tree}
 use Rattle.grammar.specs.Binarised.{Right, binary, terminal, Binarised, Tree, null, over, fork, leaf}
 use Rattle.grammar.specs.Chains.{ChainStep, Dropped, nothing, the_right, the_left, chosen_chain}
 use Rattle.grammar.specs.Strict.{StrictFormRule, strict_rules_of}

@@ -1,8 +1,7 @@
 -- Unit steps, unit chains, and the chosen chain from a symbol to a symbol.
 use Rattle.std.specs.Prelude.{◌≡◌, ℕ, zero, suc, ◌<◌, ◌≤◌, Bool, true, cond, ◌||◌, ◌⊎◌, List, [], ◌∷◌, ◌++◌, length, ◌==◌}
-use Rattle.grammar.specs.Lists.{some_of, first_of, those, each, below}
+use Rattle.grammar.specs.{Lists.some_of, Lists.first_of, Lists.those, Lists.each, Lists.below, Nullable.nullable}
 use Rattle.grammar.specs.Binarised.{Right, unit, binary, Binarised, Has, OwnRule, rules_of}
-use Rattle.grammar.specs.Nullable.{nullable}
 
 -- what a unit step drops: nothing, the nullable right symbol of a binary rule, or the left
 pub data Dropped : Type 0 where

@@ -1,15 +1,8 @@
 -- Five small books, and what the definitions say of them, in one list. The events a and b are 0 and 1, and pattern t fits the event t.
 use Rattle.std.specs.Prelude.{◌≡◌, ℕ, ◌<◌, List, [], ◌∷◌, length, nat_eq}
-use Rattle.grammar.specs.Productions.{Book, written, book}
-use Rattle.grammar.specs.Strict.{strict_rules}
-use Rattle.grammar.specs.Weighings.{counts}
-use Rattle.grammar.specs.Readings.{Reading}
-use Rattle.grammar.specs.Nodes.{Node, nodes}
-use Rattle.grammar.specs.Binarise.{binarised}
-use Rattle.grammar.specs.Weights.{total_of}
-use Rattle.grammar.specs.PlainReadings.{Unread}
-use Rattle.grammar.specs.Answers.{Taken}
-use Rattle.grammar.specs.Cells.{feed_refusal}
+use Rattle.grammar.specs.{Productions.Book, Productions.written, Productions.book, Strict.strict_rules, Weighings.counts}
+use Rattle.grammar.specs.{Readings.Reading, Nodes.Node, Nodes.nodes, Binarise.binarised, Weights.total_of, PlainReadings.Unread}
+use Rattle.grammar.specs.{Answers.Taken, Cells.feed_refusal}
 
 -- 0 → a 0 b, 0 → a b
 abbrev pub book_a : Book

@@ -1,11 +1,8 @@
 -- Context-free grammars: rewriting, the language of a nonterminal, strict Chomsky form; and the grammars of a book.
 use Rattle.std.specs.Prelude.{◌≡◌, ℕ, ◌-◌, ◌<◌, Bool, true, cond, ◌⊎◌, List, [], ◌∷◌, ◌++◌, map, nat_lt}
 use Rattle.std.specs.List.{AllZip}
-use Rattle.grammar.specs.Lists.{Mem}
-use Rattle.grammar.specs.Productions.{Production, Book}
+use Rattle.grammar.specs.{Lists.Mem, Productions.Production, Productions.Book, Strict.strict_form, Binarise.binarised}
 use Rattle.grammar.specs.Binarised.{Right, empty, unit, binary, terminal, Rule, Binarised}
-use Rattle.grammar.specs.Strict.{strict_form}
-use Rattle.grammar.specs.Binarise.{binarised}
 
 -- a symbol of a grammar: a nonterminal, or a letter, which is a terminal
 pub data Symbol : Type 0 where

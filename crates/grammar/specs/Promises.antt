@@ -1,17 +1,13 @@
 -- What is promised of a book: of its binarised and its strict rules, its chart, its readings. Functions of this crate promise it of every book.
 use Rattle.std.specs.Prelude.{◌≡◌, ℕ, zero, suc, ◌+◌, ◌-◌, ◌<◌, ◌≤◌, min, Bool, true, false, ◌⊎◌, ◌↔◌, List, [], ◌∷◌, ◌++◌, length, nat_eq, slice_index_or}
 use Rattle.grammar.specs.Lists.{span, count_up, Mem, Sorted, those, Cut, cuts}
-use Rattle.grammar.specs.Semiring.{Ops, sum}
+use Rattle.grammar.specs.{Semiring.Ops, Semiring.sum, Chains.IsChosen, Chains.ChainStep, Chains.UnitChain, Chains.chosen_chain}
 use Rattle.grammar.specs.Productions.{Production, all_tails, Book, offered, Numbers, production, SameRule, Sound}
 use Rattle.grammar.specs.Binarised.{Right, empty, Binarised, Has, Tree, Derives, Bounded}
 use Rattle.grammar.specs.Nullable.{BringsIn, nullable_after, nullable, Comes, rule_tree, nullable_tree}
-use Rattle.grammar.specs.Chains.{IsChosen, ChainStep, UnitChain, chosen_chain}
-use Rattle.grammar.specs.Weighings.{yes_no, counts}
+use Rattle.grammar.specs.{Weighings.yes_no, Weighings.counts, Cells.terminal_fits, Cells.is_binary, Cells.sides, Taken.yes_cell}
 use Rattle.grammar.specs.Strict.{StrictFormRule, proper, strict_rules_of, strict_rules, Before}
-use Rattle.grammar.specs.Cells.{terminal_fits, is_binary, sides}
-use Rattle.grammar.specs.Taken.{yes_cell}
-use Rattle.grammar.specs.Readings.{Reading, Reads}
-use Rattle.grammar.specs.Nodes.{Node, nodes, events, Span}
+use Rattle.grammar.specs.{Readings.Reading, Readings.Reads, Nodes.Node, Nodes.nodes, Nodes.events, Nodes.Span}
 use Rattle.grammar.specs.Binarise.{binarise, binarised, Within, Admitted}
 use Rattle.grammar.specs.Weights.{reading_weight, reading_cost, strict_weight_of, cell_of, total_of}
 use Rattle.grammar.specs.PlainReadings.{PlainReading, PlainList, WholeList, Unread}

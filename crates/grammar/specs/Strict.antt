@@ -1,8 +1,7 @@
 -- Strict rules: binary and terminal rules alone, unit chains and parts without events worked in.
 use Rattle.std.specs.Prelude.{◌≡◌, ℕ, ◌<◌, Bool, true, false, ◌⊎◌, List, map}
-use Rattle.grammar.specs.Lists.{those, each, below}
+use Rattle.grammar.specs.{Lists.those, Lists.each, Lists.below, Chains.reached}
 use Rattle.grammar.specs.Binarised.{Right, empty, unit, rule, Binarised, OwnRule, rules_of}
-use Rattle.grammar.specs.Chains.{reached}
 
 -- a strict rule: its symbol, the symbol that the chosen chain leads to, the number and right side of a binary or terminal rule of that
 pub record StrictFormRule : Type 0 where

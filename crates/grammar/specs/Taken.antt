@@ -1,12 +1,9 @@
 -- The derivation that is taken: the first strict rule that fits, then the shortest left part.
 use Rattle.std.specs.Prelude.{◌≡◌, ℕ, Bool, true, ◌&&◌, List, [], ◌∷◌}
-use Rattle.grammar.specs.Lists.{First, Cut, cuts}
+use Rattle.grammar.specs.{Lists.First, Lists.Cut, Lists.cuts, Nullable.nullable_tree, Strict.StrictFormRule, Strict.strict_rules_of}
 use Rattle.grammar.specs.Binarised.{binary, terminal, Binarised, Tree, over, fork, leaf}
-use Rattle.grammar.specs.Nullable.{nullable_tree}
 use Rattle.grammar.specs.Chains.{ChainStep, Dropped, nothing, the_right, the_left, chosen_chain}
-use Rattle.grammar.specs.Strict.{StrictFormRule, strict_rules_of}
-use Rattle.grammar.specs.Weighings.{yes_no}
-use Rattle.grammar.specs.Cells.{over_events, cell}
+use Rattle.grammar.specs.{Weighings.yes_no, Cells.over_events, Cells.cell}
 
 -- a unit step over a tree, with the chosen tree of what it drops
 abbrev pub step_over : Binarised → ℕ → ℕ → Dropped → Tree → Tree
