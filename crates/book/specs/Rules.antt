@@ -9,7 +9,6 @@ use Rattle.book.specs.declared.rules.Rules.{Rules}
 abbrev pub held : Rules → List Production
 held b = map production_of b.rows.items
 
--- the book of the rules held
 abbrev pub rules_book : Rules → Book
 rules_book b = rows_book b.rows.items b.patterns
 

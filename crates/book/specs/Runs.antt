@@ -17,13 +17,10 @@ abbrev pub loaded : Load → List Production
 loaded (taken rules n) = rules
 loaded (stopped rules number at) = rules
 
--- the rules with one more at the end, unless its offer to a book of T patterns meets a refusal
-abbrev pub with_offer : ℕ → List Production → Production → List Production
-with_offer T rules p = cond (refusal T rules p == 0) (rules ++ (p ∷ [])) rules
-
 -- the rules held after a call on a book of T patterns that held these
 abbrev pub after : ℕ → List Production → Call → List Production
-after T rules (an_offer head items cost) = with_offer T rules (written head items cost)
+after T rules (an_offer head items cost) =
+    cond (refusal T rules (written head items cost) == 0) (rules ++ (written head items cost ∷ [])) rules
 after T rules (a_load text) = loaded (load T rules text)
 after T rules a_strike = all_but_last rules
 
