@@ -19,7 +19,7 @@ use Rattle.conversion.specs.declared.nullable.Brought.{Brought}
 use Rattle.conversion.proofs.Each.{each_append}
 use Rattle.conversion.proofs.Bringing.{held_on, held_last}
 use Rattle.conversion.proofs.Walking.{brings_ready, brings_tree}
-use Rattle.chart.specs.Blanks.{blank_nodes, AllBlank}
+use Rattle.chart.specs.Inner.{blank_nodes, AllBlank}
 use Rattle.chart.proofs.BlankRounds.{rounds_in, most_rounds, rounds_low, rounds_high, rounds_under}
 
 -- the node of a rule of a head

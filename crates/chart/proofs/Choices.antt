@@ -31,7 +31,7 @@ use Rattle.conversion.specs.Views.{drop_of, step_of, strict_rule_of}
 use Rattle.conversion.specs.Linked.{Chosen}
 use Rattle.conversion.proofs.Walking.{shortest_chain}
 use Rattle.book.proofs.Held.{seen}
-use Rattle.chart.specs.Choices.{cut_after, FirstCut}
+use Rattle.chart.specs.Inner.{cut_after, FirstCut}
 use Rattle.chart.proofs.Firsts.{first_one, first_at, none_more, some_those, first_those, some_map, first_map}
 use Rattle.chart.proofs.StrictWeights.{chosen_there}
 

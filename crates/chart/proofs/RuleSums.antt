@@ -16,7 +16,7 @@ use Rattle.conversion.specs.Views.{strict_rule_of}
 use Rattle.conversion.proofs.Firsts.{get_d_mem}
 use Rattle.chart.specs.declared.weighed.WeighedRule.{WeighedRule}
 use Rattle.chart.specs.Weights.{Weighs}
-use Rattle.chart.specs.Charts.{over_event, over_parts}
+use Rattle.chart.specs.Inner.{over_event, over_parts}
 use Rattle.chart.proofs.SumLaws.{sum_cond}
 use Rattle.chart.proofs.PairSums.{side_sum}
 

@@ -18,9 +18,7 @@ use Rattle.grammar.proofs.BinarisedRules.{binarised_bounded, binarised_has, bina
 use Rattle.conversion.specs.Views.{drop_of}
 use Rattle.chart.specs.declared.choice.Choice.{Choice}
 use Rattle.chart.specs.declared.choice.Choice.TheVariants.{Step, Leaf, Fork}
-use Rattle.chart.specs.Choices.{choice_number, ChoiceAt, ChoiceTaken}
-use Rattle.chart.specs.Blanks.{blank_nodes, AllBlank}
-use Rattle.chart.specs.Writing.{RuleOver, Stands, below_root}
+use Rattle.chart.specs.Inner.{choice_number, ChoiceAt, ChoiceTaken, RuleOver, Stands, below_root, blank_nodes, AllBlank}
 use Rattle.chart.proofs.BlankNodes.{first_right, first_pair, blank_width, tail_nodes, nullable_head, item_below}
 
 -- the nodes of a tree by its root: of a head its node first, of a tail those below alone

@@ -15,7 +15,6 @@ use Rattle.chart.specs.Charts.{HoldsChart}
 abbrev pub chart_book : {A K E P V U : Type 0} {G : Ghosts A E P} {H : Weighings K V U} {B : Banks U V} → Chart A K E P V U G H B → Book
 chart_book c = closed_book c.book.now
 
--- its number of symbols, S
 abbrev pub chart_symbols : {A K E P V U : Type 0} {G : Ghosts A E P} {H : Weighings K V U} {B : Banks U V} → Chart A K E P V U G H B → ℕ
 chart_symbols c = (binarised (chart_book c)).symbols
 

@@ -6,8 +6,8 @@ ghost use Rattle.grammar.specs.Nullable.{nullable, nullable_tree};
 ghost use Rattle.grammar.specs.Nodes.{Node as TreeNode, tree_nodes};
 ghost use Rattle.conversion.specs.Held.{Brings};
 ghost use Rattle.book.specs.Rules.{rules_book};
-ghost use Rattle.chart.specs.Nodes.{node_of, Wrote, SameTable};
-ghost use Rattle.chart.specs.Blanks.{blank_nodes, AllBlank};
+ghost use Rattle.chart.specs.Nodes.{node_of};
+ghost use Rattle.chart.specs.Inner.{Wrote, SameTable, blank_nodes, AllBlank};
 
 use crate::node::Node;
 use crate::node_table::NodeTable;

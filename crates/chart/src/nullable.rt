@@ -2,7 +2,8 @@
 ghost use Rattle.std.specs.Prelude.{◌≡◌, suc};
 ghost use Rattle.grammar.specs.Weights.{binarised_weight};
 ghost use Rattle.conversion.specs.Views.{right_side_of};
-ghost use Rattle.chart.specs.Weights.{rules_book, right_weight, WeightsAfter, NullableWeights};
+ghost use Rattle.chart.specs.Weights.{rules_book, NullableWeights};
+ghost use Rattle.chart.specs.Inner.{WeightsAfter, right_weight};
 
 use book::converted::Converted;
 use book::rules::Rules;
