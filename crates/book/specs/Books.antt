@@ -1,15 +1,10 @@
 -- What books hold.
 use Rattle.std.specs.Prelude.{◌≡◌, ℕ, ◌<◌, ◌≤◌, Bool, List, map, length, Option, MatchOption, slice_index_or}
-use Rattle.grammar.specs.Productions.{Production, Book}
-use Rattle.grammar.specs.Binarise.{binarised}
-use Rattle.grammar.specs.Strict.{StrictFormRule, strict_rules}
+use Rattle.grammar.specs.{Productions.Production, Productions.Book, Binarise.binarised, Strict.StrictFormRule, Strict.strict_rules}
 use Rattle.grammar.specs.Promises.{TheStrictList, StrictLanguage}
 use Rattle.conversion.specs.Views.{strict_rule_of}
-use Rattle.book.specs.declared.alphabet.Alphabet.{Ghosts}
-use Rattle.book.specs.declared.books.OpenBook.{OpenBook}
-use Rattle.book.specs.declared.books.ClosedBook.{ClosedBook}
-use Rattle.book.specs.Rules.{held, rules_book}
-use Rattle.book.specs.Fits.{table_fits}
+use Rattle.book.specs.declared.{alphabet.Alphabet.Ghosts, books.OpenBook.OpenBook, books.ClosedBook.ClosedBook}
+use Rattle.book.specs.{Rules.held, Rules.rules_book, Fits.table_fits}
 
 abbrev pub open_held : {A E P : Type 0} {G : Ghosts A E P} → OpenBook A E P G → List Production
 open_held b = held b.rules

@@ -1,13 +1,9 @@
 -- The numbers of the refusals, the places of those of a load, and the refusals in plain words.
 use Rattle.std.specs.Prelude.{ℕ, List, ◌++◌, codes, decimal}
 use Rattle.text.specs.Faults.{line_fault_number, line_fault_place, line_fault_text}
-use Rattle.book.specs.declared.fault.TableFault.{TableFault}
-use Rattle.book.specs.declared.fault.TableFault.TheVariants.{TooManyPatterns}
-use Rattle.book.specs.declared.fault.OfferFault.{OfferFault}
+use Rattle.book.specs.declared.{fault.TableFault.TableFault, fault.TableFault.TheVariants.TooManyPatterns, fault.OfferFault.OfferFault}
 use Rattle.book.specs.declared.fault.OfferFault.TheVariants.{HeadTooLarge, TooManyItems, UnknownItem, Repeated, BookFull, TooManyTails, TooManyStrictRules}
-use Rattle.book.specs.declared.fault.StrikeFault.{StrikeFault}
-use Rattle.book.specs.declared.fault.StrikeFault.TheVariants.{NoRule}
-use Rattle.book.specs.declared.fault.LoadFault.{LoadFault}
+use Rattle.book.specs.declared.{fault.StrikeFault.StrikeFault, fault.StrikeFault.TheVariants.NoRule, fault.LoadFault.LoadFault}
 use Rattle.book.specs.declared.fault.LoadFault.TheVariants.{Line, Refused}
 
 abbrev pub table_number : TableFault → ℕ

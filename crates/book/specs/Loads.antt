@@ -1,15 +1,11 @@
 -- What a load does: the lines of its text are offered in turn, up to the first that meets a number.
 use Rattle.std.specs.Prelude.{◌≡◌, ℕ, suc, ◌+◌, ◌≤◌, Bool, true, false, cond, List, [], ◌∷◌, ◌++◌, length, Ok, Err, Result, ◌==◌}
 use Rattle.text.specs.declared.fault.LineFault.{LineFault}
-use Rattle.text.specs.Kinds.{OfKind}
-use Rattle.text.specs.Words.{Piece, lines, line_words, CutInto}
+use Rattle.text.specs.{Kinds.OfKind, Words.Piece, Words.lines, Words.line_words, Words.CutInto}
 use Rattle.text.specs.Outcomes.{Outcome, nothing, rule, fault, line, line_text, kinds, Says, Means, OfDigits}
-use Rattle.grammar.specs.Lists.{Mem}
-use Rattle.grammar.specs.Productions.{Production}
-use Rattle.book.specs.Faults.{load_number, load_place}
-use Rattle.book.specs.Offers.{refusal}
-use Rattle.book.specs.declared.fault.LoadFault.{LoadFault}
-use Rattle.book.specs.declared.fault.LoadFault.TheVariants.{Line}
+use Rattle.grammar.specs.{Lists.Mem, Productions.Production}
+use Rattle.book.specs.{Faults.load_number, Faults.load_place, Offers.refusal}
+use Rattle.book.specs.declared.{fault.LoadFault.LoadFault, fault.LoadFault.TheVariants.Line}
 
 -- the fault of a line, as the load's
 abbrev pub line_fault : LineFault → LoadFault

@@ -1,10 +1,8 @@
 -- What an offer meets, and what the book then holds.
 use Rattle.std.specs.Prelude.{◌≡◌, ℕ, ◌+◌, Bool, cond, ◌&&◌, leb, List, [], ◌∷◌, ◌++◌, length, Ok, Err, Result, ◌==◌, nat_le, nat_lt}
-use Rattle.grammar.specs.Lists.{some_of, same_numbers}
-use Rattle.grammar.specs.Productions.{Production, Book, all_tails}
+use Rattle.grammar.specs.{Lists.some_of, Lists.same_numbers, Productions.Production, Productions.Book, Productions.all_tails}
 pub use Rattle.grammar.specs.Productions.{book}
-use Rattle.grammar.specs.Binarise.{binarised}
-use Rattle.grammar.specs.Strict.{strict_rules}
+use Rattle.grammar.specs.{Binarise.binarised, Strict.strict_rules}
 use Rattle.book.specs.declared.fault.OfferFault.{OfferFault}
 use Rattle.book.specs.Faults.{offer_number}
 

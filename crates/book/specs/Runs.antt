@@ -2,9 +2,7 @@
 use Rattle.std.specs.Prelude.{◌≡◌, ℕ, cond, List, [], ◌∷◌, ◌++◌, fold, ◌==◌}
 use Rattle.grammar.specs.Productions.{Production}
 use Rattle.conversion.specs.Rows.{written}
-use Rattle.book.specs.Offers.{refusal}
-use Rattle.book.specs.Loads.{Load, taken, stopped, load}
-use Rattle.book.specs.Strikes.{all_but_last}
+use Rattle.book.specs.{Offers.refusal, Loads.Load, Loads.taken, Loads.stopped, Loads.load, Strikes.all_but_last}
 
 -- a call with its arguments: an offer of a head, items and a cost, a load of a text, a strike
 pub data Call : Type 0 where

@@ -1,10 +1,6 @@
 -- The chart of a list of events, in a table of weights.
 use Rattle.std.specs.Prelude.{◌≡◌, ℕ, ◌+◌, ◌-◌, ◌<◌, ◌≤◌, Bool, List, length}
-use Rattle.grammar.specs.Lists.{span}
-use Rattle.grammar.specs.Semiring.{Ops}
-use Rattle.grammar.specs.Productions.{Book}
-use Rattle.grammar.specs.Binarise.{binarised}
-use Rattle.grammar.specs.Weights.{cell_of}
+use Rattle.grammar.specs.{Lists.span, Semiring.Ops, Productions.Book, Binarise.binarised, Weights.cell_of}
 use Rattle.chart.specs.Table.{column_place, cell_place, cell_at}
 
 -- the table holds the chart of these events: it is long enough, and each cell, of the events from start i up to event e, is the definition's

@@ -1,13 +1,9 @@
 -- The events that a chart holds.
 use Rattle.std.specs.Prelude.{◌≡◌, ℕ, Bool, List, length}
-use Rattle.grammar.specs.Productions.{Book}
-use Rattle.grammar.specs.Semiring.{Ops}
-use Rattle.grammar.specs.Binarise.{binarised}
-use Rattle.book.specs.Books.{closed_book, closed_fits}
-use Rattle.book.specs.Fits.{TestsTable}
+use Rattle.grammar.specs.{Productions.Book, Semiring.Ops, Binarise.binarised}
+use Rattle.book.specs.{Books.closed_book, Books.closed_fits, Fits.TestsTable}
 use Rattle.book.specs.declared.alphabet.Alphabet.{Ghosts}
-use Rattle.weighing.specs.declared.weighing.Weighing.{Ghosts as Weighings}
-use Rattle.weighing.specs.declared.bank.Bank.{Ghosts as Banks}
+use Rattle.weighing.specs.declared.{weighing.Weighing.Ghosts as Weighings, bank.Bank.Ghosts as Banks}
 use Rattle.chart.specs.declared.chart.Chart.{Chart}
 use Rattle.chart.specs.Charts.{HoldsChart}
 

@@ -1,13 +1,9 @@
 -- The numbers of the refusals of feeds, withdrawals, readings and parts; and each in plain words: the cause and the number.
 use Rattle.std.specs.Prelude.{ℕ, List, codes}
 use Rattle.book.specs.Faults.{with_number}
-use Rattle.chart.specs.declared.fault.FeedFault.{FeedFault}
-use Rattle.chart.specs.declared.fault.FeedFault.TheVariants.{NoRoom}
-use Rattle.chart.specs.declared.fault.WithdrawFault.{WithdrawFault}
-use Rattle.chart.specs.declared.fault.WithdrawFault.TheVariants.{TooMany}
-use Rattle.chart.specs.declared.fault.ReadingFault.{ReadingFault}
-use Rattle.chart.specs.declared.fault.ReadingFault.TheVariants.{TooManyNodes}
-use Rattle.chart.specs.declared.fault.PartFault.{PartFault}
+use Rattle.chart.specs.declared.{fault.FeedFault.FeedFault, fault.FeedFault.TheVariants.NoRoom, fault.WithdrawFault.WithdrawFault}
+use Rattle.chart.specs.declared.{fault.WithdrawFault.TheVariants.TooMany, fault.ReadingFault.ReadingFault}
+use Rattle.chart.specs.declared.{fault.ReadingFault.TheVariants.TooManyNodes, fault.PartFault.PartFault}
 use Rattle.chart.specs.declared.fault.PartFault.TheVariants.{PastTheTrace}
 
 abbrev pub feed_number : FeedFault → ℕ

@@ -1,33 +1,21 @@
 -- Words of private contracts: no promise to a caller rests on these.
 use Rattle.std.specs.Prelude.{◌≡◌, length, ℕ, suc, ◌<◌, ◌≤◌, true, cond, ◌⊎◌, List, ◌==◌, nat_eq, ◌+◌, ◌-◌, Bool, false, ◌∷◌, Some, None, Option, [], ◌++◌, slice_index_or, min, nat_lt}
 use Rattle.grammar.specs.Lists.{Mem, those, First, Cut, some_of, cuts, span, each}
-use Rattle.grammar.specs.Semiring.{Ops, sum}
-use Rattle.grammar.specs.Cells.{is_binary, sides, column_place, terminal_fits}
+use Rattle.grammar.specs.{Semiring.Ops, Semiring.sum, Cells.is_binary, Cells.sides, Cells.column_place, Cells.terminal_fits}
 use Rattle.grammar.specs.Binarised.{binary, terminal, Binarised, Has, Tree, fork, leaf, Rule, null, over, width, Right, empty, unit}
 use Rattle.grammar.specs.Chains.{Leads, chosen_chain, Dropped, nothing, the_right, the_left}
 use Rattle.grammar.specs.Strict.{strict_rules_of, StrictFormRule}
 use Rattle.grammar.specs.Taken.{step_over, yes_cell, rule_fits, cut_fits, Takes}
-use Rattle.grammar.specs.Binarise.{binarised, binarise_right}
-use Rattle.grammar.specs.Weighings.{yes_no}
-use Rattle.grammar.specs.Nodes.{Node, tree_nodes}
-use Rattle.grammar.specs.Nullable.{nullable, nullable_tree, nullable_after}
-use Rattle.grammar.specs.Productions.{Book}
-use Rattle.grammar.specs.Weights.{strict_weight_of}
+use Rattle.grammar.specs.{Binarise.binarised, Binarise.binarise_right, Weighings.yes_no, Nodes.Node, Nodes.tree_nodes}
+use Rattle.grammar.specs.{Nullable.nullable, Nullable.nullable_tree, Nullable.nullable_after, Productions.Book, Weights.strict_weight_of}
 use Rattle.grammar.specs.Answers.{limit, filled}
 use Rattle.conversion.specs.Views.{right_side_of, drop_of, step_of, strict_rule_of}
-use Rattle.conversion.specs.declared.strict.StrictRule.{StrictRule}
-use Rattle.conversion.specs.declared.chain.UnitStep.{UnitStep}
+use Rattle.conversion.specs.declared.{strict.StrictRule.StrictRule, chain.UnitStep.UnitStep}
 use Rattle.book.specs.declared.alphabet.Alphabet.{Ghosts}
-use Rattle.weighing.specs.declared.weighing.Weighing.{Ghosts as Weighings}
-use Rattle.weighing.specs.declared.bank.Bank.{Ghosts as Banks}
-use Rattle.chart.specs.Events.{Holds, chart_book, chart_fits}
-use Rattle.chart.specs.Table.{cell_place, SameOutside, cell_at}
-use Rattle.chart.specs.Weights.{blank_weight}
-use Rattle.chart.specs.Nodes.{nodes_of}
-use Rattle.chart.specs.declared.column.Column.{Column}
-use Rattle.chart.specs.declared.pairs.Pair.{Pair}
-use Rattle.chart.specs.declared.chart.Chart.{Chart}
-use Rattle.chart.specs.declared.choice.Choice.{Choice}
+use Rattle.weighing.specs.declared.{weighing.Weighing.Ghosts as Weighings, bank.Bank.Ghosts as Banks}
+use Rattle.chart.specs.{Events.Holds, Events.chart_book, Events.chart_fits, Table.cell_place, Table.SameOutside, Table.cell_at}
+use Rattle.chart.specs.{Weights.blank_weight, Nodes.nodes_of}
+use Rattle.chart.specs.declared.{column.Column.Column, pairs.Pair.Pair, chart.Chart.Chart, choice.Choice.Choice}
 use Rattle.chart.specs.declared.choice.Choice.TheVariants.{Step, Leaf, Fork}
 use Rattle.chart.specs.declared.node_table.NodeTable.{NodeTable}
 
@@ -73,8 +61,7 @@ pairs_sum M left x ps = sum M (λ (p : Pair _). M.times (left p.left) p.weight) 
 abbrev pub PairsWithin : {V : Type 0} → ℕ → List (Pair V) → Type 0
 PairsWithin S ps = (p : Pair _) → Mem p ps → (p.symbol < S) × (p.left < S)
 
--- over a right cell a strict rule of a weight has come to the pairs: where it is binary, for every left cell they come to so much more.
--- Each pair is one that was there, or of the rule's symbol and its first symbol
+-- over a right cell a strict rule of a weight has come to the pairs: where it is binary, for every left cell they come to so much more
 pub record PairAdded {V : Type 0} (M : Ops V) (r : StrictRule) (w : V) (right : ℕ → V) (was is : List (Pair V)) : Type 0 where
   pub sums : (left : ℕ → V) (x : ℕ) → pairs_sum M left x is ≡ M.plus (pairs_sum M left x was)
       (cond (r.symbol == x) (cond (is_binary (right_side_of r.right)) (M.times w (M.times (left (sides (right_side_of r.right)).0) (right (sides (right_side_of r.right)).1))) M.zero) M.zero)
@@ -144,8 +131,7 @@ ChoiceAt B x n (Some (Step u)) = (u.from ≡ x) × Leads B x u.number (drop_of u
 ChoiceAt B x n (Some (Leaf k)) = (t : ℕ) × Has B x k (terminal t)
 ChoiceAt B x n (Some (Fork k y z m)) = Has B x k (binary y z) × (0 < m) × (m < n)
 
--- by this choice a derivation of the n events from place i on is taken from x: it is the unit step over the one taken from where that
--- leads, the leaf, or the fork over those taken of the two parts. None: there is no derivation
+-- by this choice a derivation of the n events from place i on is taken from x, over those taken of its parts; by none there is none
 abbrev pub ChoiceTaken : {E : Type 0} → Binarised → (E → ℕ → Bool) → ℕ → List E → ℕ → ℕ → Option Choice → Type 0
 ChoiceTaken B fits x es i n None = yes_cell B fits x (span es i n) ≡ false
 ChoiceTaken B fits x es i n (Some (Step u)) = (s : Tree) × Takes B fits u.to s (span es i n)

@@ -1,16 +1,9 @@
 -- What the call for the reading answers, and what it leaves in the caller's table.
 use Rattle.std.specs.Prelude.{◌≡◌, ℕ, Bool, ◌↔◌, List, ◌∷◌, Ok, Err, Some, None, Option, Result}
-use Rattle.grammar.specs.Lists.{First}
-use Rattle.grammar.specs.Productions.{Book}
-use Rattle.grammar.specs.Binarise.{binarised}
-use Rattle.grammar.specs.Chains.{ChainStep, chosen_chain}
-use Rattle.grammar.specs.Strict.{StrictFormRule, strict_rules_of}
-use Rattle.grammar.specs.Taken.{rule_fits}
-use Rattle.grammar.specs.Readings.{Reading}
-use Rattle.grammar.specs.PlainReadings.{Unread}
-use Rattle.grammar.specs.Nodes.{Node, nodes}
+use Rattle.grammar.specs.{Lists.First, Productions.Book, Binarise.binarised, Chains.ChainStep, Chains.chosen_chain}
+use Rattle.grammar.specs.{Strict.StrictFormRule, Strict.strict_rules_of, Taken.rule_fits, Readings.Reading, PlainReadings.Unread}
+use Rattle.grammar.specs.{Nodes.Node, Nodes.nodes, Promises.NodeList, Promises.TakesExactly, Promises.TableAfter}
 use Rattle.grammar.specs.Answers.{Taken, Answer, none, number, refused, Answers}
-use Rattle.grammar.specs.Promises.{NodeList, TakesExactly, TableAfter}
 use Rattle.chart.specs.Faults.{reading_number}
 use Rattle.chart.specs.declared.fault.ReadingFault.{ReadingFault}
 

@@ -2,11 +2,9 @@
 use Rattle.std.specs.Prelude.{ℕ, ◌-◌, cond, Bool, List, [], ◌∷◌, ◌++◌, fold, length, take, ◌==◌}
 use Rattle.grammar.specs.Semiring.{Ops}
 use Rattle.book.specs.declared.alphabet.Alphabet.{Ghosts}
-use Rattle.weighing.specs.declared.weighing.Weighing.{Ghosts as Weighings}
-use Rattle.weighing.specs.declared.bank.Bank.{Ghosts as Banks}
+use Rattle.weighing.specs.declared.{weighing.Weighing.Ghosts as Weighings, bank.Bank.Ghosts as Banks}
 use Rattle.chart.specs.declared.chart.Chart.{Chart}
-use Rattle.chart.specs.Events.{chart_symbols, Holds}
-use Rattle.chart.specs.Feeds.{feed_refusal, withdraw_refusal}
+use Rattle.chart.specs.{Events.chart_symbols, Events.Holds, Feeds.feed_refusal, Feeds.withdraw_refusal}
 
 -- a call with its arguments: a feed of an event, a withdrawal of the last k
 pub data ChartCall (E : Type 0) : Type 0 where

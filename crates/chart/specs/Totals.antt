@@ -1,11 +1,7 @@
 -- What the total of a chart says of the events that it holds.
 use Rattle.std.specs.Prelude.{◌≡◌, ℕ, min, Bool, true, false, ◌↔◌, List, length}
-use Rattle.grammar.specs.Semiring.{Ops}
-use Rattle.grammar.specs.Productions.{Book, ProperBook}
-use Rattle.grammar.specs.Weighings.{yes_no, counts, costs}
-use Rattle.grammar.specs.Readings.{Reading, Reads}
-use Rattle.grammar.specs.PlainReadings.{PlainList, Unread}
-use Rattle.grammar.specs.Weights.{total_of}
+use Rattle.grammar.specs.{Semiring.Ops, Productions.Book, Productions.ProperBook, Weighings.yes_no, Weighings.counts, Weighings.costs}
+use Rattle.grammar.specs.{Readings.Reading, Readings.Reads, PlainReadings.PlainList, PlainReadings.Unread, Weights.total_of}
 use Rattle.grammar.specs.Promises.{PlainSum, WholeSum, YesCells, CellSets, Least}
 
 -- r is the definition's total: the sum over the plain readings, and, where no production is empty or one head alone, over all readings

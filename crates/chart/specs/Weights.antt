@@ -1,13 +1,7 @@
 -- The weights that a chart works from: of binarised rules, of the chosen derivations of nothing, of strict rules.
 use Rattle.std.specs.Prelude.{◌≡◌, ℕ, ◌<◌, cond, List, map}
-use Rattle.grammar.specs.Semiring.{Ops}
-use Rattle.grammar.specs.Productions.{Book}
-use Rattle.grammar.specs.Nullable.{nullable, nullable_tree}
-use Rattle.grammar.specs.Lists.{Mem}
-use Rattle.grammar.specs.Strict.{strict_rules}
-use Rattle.grammar.specs.Cells.{tree_weight}
-use Rattle.grammar.specs.Weights.{binarised_weight, strict_weight_of}
-use Rattle.grammar.specs.Binarise.{binarised}
+use Rattle.grammar.specs.{Semiring.Ops, Productions.Book, Nullable.nullable, Nullable.nullable_tree, Lists.Mem, Strict.strict_rules}
+use Rattle.grammar.specs.{Cells.tree_weight, Weights.binarised_weight, Weights.strict_weight_of, Binarise.binarised}
 use Rattle.conversion.specs.Views.{strict_rule_of}
 pub use Rattle.book.specs.Rules.{rules_book}
 use Rattle.chart.specs.declared.weighed.WeighedRule.{WeighedRule}

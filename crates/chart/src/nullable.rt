@@ -13,7 +13,7 @@ use weighing::bank::Bank;
 use weighing::weighing::Weighing;
 
 // Symbols below this are heads. The book has its own constant, since that one is the limit of an offer.
-const HEADS: u8 = 32;
+pub const HEADS: u8 = 32;
 
 // The weight of a binarised rule: a production's cost counts at its head's rule; a tail's rule and that of a pattern's own
 // symbol weigh one.

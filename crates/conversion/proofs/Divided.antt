@@ -16,7 +16,7 @@ use Rattle.conversion.specs.declared.binarised.BinarisedRules.{BinarisedRules}
 use Rattle.conversion.specs.Rows.{production_of}
 use Rattle.conversion.specs.Views.{rule_of}
 use Rattle.conversion.specs.Binarised.{rows_book, grammar_of}
-use Rattle.conversion.proofs.Firsts.{get_d_mem}
+use Rattle.grammar.proofs.BinarisedRules.{get_d_mem}
 use Rattle.conversion.proofs.Each.{below_more}
 
 -- the rules held

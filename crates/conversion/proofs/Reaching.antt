@@ -16,7 +16,8 @@ use Rattle.conversion.specs.declared.chain.UnitStep.{UnitStep}
 use Rattle.conversion.specs.declared.chain.Chain.{Chain}
 use Rattle.conversion.specs.declared.chain.Chain.TheVariants.{Empty, Steps}
 use Rattle.conversion.specs.declared.chain.Chains.{Chains}
-use Rattle.conversion.proofs.Firsts.{some_append, first_append, get_d_mem}
+use Rattle.conversion.proofs.Firsts.{some_append, first_append}
+use Rattle.grammar.proofs.BinarisedRules.{get_d_mem}
 use Rattle.conversion.proofs.Stepping.{starts, own_steps}
 use Rattle.conversion.proofs.Linking.{extended}
 

@@ -3,13 +3,10 @@ use Rattle.std.specs.Prelude.{ℕ, List, map, Some, None, Option}
 use Rattle.grammar.specs.Binarised.{Right as RightSide, empty, unit, binary, terminal, Rule, rule, Binarised}
 use Rattle.grammar.specs.Chains.{ChainStep, Dropped as Drop, nothing, the_right, the_left}
 use Rattle.grammar.specs.Strict.{StrictFormRule}
-use Rattle.conversion.specs.declared.right.Right.{Right}
+use Rattle.conversion.specs.declared.{right.Right.Right, right.BinarisedRule.BinarisedRule, chain.Dropped.Dropped}
 use Rattle.conversion.specs.declared.right.Right.TheVariants.{Empty, Unit, Binary, Terminal}
-use Rattle.conversion.specs.declared.right.BinarisedRule.{BinarisedRule}
-use Rattle.conversion.specs.declared.chain.Dropped.{Dropped}
 use Rattle.conversion.specs.declared.chain.Dropped.TheVariants.{Right as OnTheRight, Left as OnTheLeft}
-use Rattle.conversion.specs.declared.chain.UnitStep.{UnitStep}
-use Rattle.conversion.specs.declared.strict.StrictRule.{StrictRule}
+use Rattle.conversion.specs.declared.{chain.UnitStep.UnitStep, strict.StrictRule.StrictRule}
 
 abbrev pub right_side_of : Right → RightSide
 right_side_of Empty = empty

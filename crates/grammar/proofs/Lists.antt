@@ -150,6 +150,10 @@ pub length_count_up : (a n : ℕ) → length (count_up a n) ≡ n
 length_count_up a zero = refl
 length_count_up a (suc n) = ap suc (length_count_up (suc a) n)
 
+pub cond_yes : (b : Bool) → cond b true false ≡ true → b ≡ true
+cond_yes true t = refl
+cond_yes false t = t
+
 -- cuts
 
 -- the cut with e before its left part

@@ -13,11 +13,9 @@ use Rattle.grammar.specs.Weights.{reading_weight, binarised_weight}
 use Rattle.grammar.proofs.BinarisedRules.{head_small}
 use Rattle.grammar.proofs.Nodes.{rules, rules_in, by_of, nodes_rules}
 use Rattle.grammar.proofs.Binarise.{two, two_shape}
+use Rattle.grammar.proofs.Sums.{times_one_right}
 
 module _ {V : Type 0} (M : Ops V) (L : Semiring M) where
-  pub times_one_right : (a : V) → M.times a M.one ≡ a
-  times_one_right a = L.times_comm a M.one ∙ L.times_one a
-
   pub product_append : {A : Type 0} (f : A → V) (xs ys : List A) → product M f (xs ++ ys) ≡ M.times (product M f xs) (product M f ys)
   product_append f [] ys = sym (L.times_one _)
   product_append f (x ∷ xs) ys = ap (M.times (f x)) (product_append f xs ys) ∙ sym (L.times_assoc _ _ _)

@@ -1,16 +1,12 @@
 -- What the words of a line give.
 use Rattle.std.specs.Prelude.{◌≡◌, ℕ, ◌+◌, ◌-◌, ◌<◌, ◌≤◌, Bool, true, false, cond, ◌⊎◌, List, [], ◌∷◌, ◌++◌, map, length, take, Some, None, Ok, Err, codes, decimal, Option, Result, nat_le, nat_lt}
 use Rattle.std.specs.Option.{option_map_or}
-use Rattle.grammar.specs.Lists.{Mem, each}
-use Rattle.grammar.specs.Productions.{Production}
+use Rattle.grammar.specs.{Lists.Mem, Lists.each, Productions.Production}
 pub use Rattle.grammar.specs.Productions.{written}
-use Rattle.text.specs.Faults.{line_fault_number, line_fault_place}
+use Rattle.text.specs.{Faults.line_fault_number, Faults.line_fault_place, Numbers.is_numeral, Numbers.decimal as decimal_of}
 use Rattle.text.specs.Kinds.{Kind, arrow, blank, head, pattern, cost, unknown, kind, word_of, place_of}
-use Rattle.text.specs.Numbers.{is_numeral, decimal as decimal_of}
 use Rattle.text.specs.Words.{Piece, piece}
-use Rattle.text.specs.declared.fault.LineFault.{LineFault}
-use Rattle.text.specs.declared.rule_line.RuleLine.{RuleLine}
-use Rattle.text.specs.declared.token.Token.{Token}
+use Rattle.text.specs.declared.{fault.LineFault.LineFault, rule_line.RuleLine.RuleLine, token.Token.Token}
 
 -- what a line gives: nothing, a rule, or a refusal with its number and its byte place
 pub data Outcome : Type 0 where
@@ -107,33 +103,21 @@ front_kinds p = head p.head ∷ (arrow ∷ right_kinds p.right)
 abbrev pub Says : List Kind → Production → Type 0
 Says ks p = Writable p × ((ks ≡ front_kinds p ++ (cost p.cost ∷ [])) ⊎ ((ks ≡ front_kinds p) × (p.cost ≡ 0)))
 
+-- a sound line can begin with these words
 abbrev pub Begins : List Kind → Type 0
 Begins ks = (p : Production) × ((more : List Kind) × Says (ks ++ more) p)
 
--- a word is refused: a sound line can begin with the words before it, and with it no longer
-pub record WordRefused (ws : List Piece) (n at : ℕ) : Type 0 where
-  pub before : List Piece
-  pub word : Piece
-  pub after : List Piece
-  pub are : ws ≡ before ++ (word ∷ after)
-  pub begins : Begins (kinds before)
-  pub no_longer : Begins (kinds before ++ (kind word.bytes ∷ [])) → ⊥
-  pub number : n ≡ refusal_of (kind word.bytes)
-  pub place : at ≡ word.place
-
--- the line is too short: a sound line can begin with its words, of which there are some, and they are none
-pub record LineTooShort (end : ℕ) (ws : List Piece) (n at : ℕ) : Type 0 where
-  pub some : 0 < length ws
-  pub begins : Begins (kinds ws)
-  pub not_sound : (p : Production) → Says (kinds ws) p → ⊥
-  pub number : n ≡ 23
-  pub place : at ≡ end
+-- what is refused: the first word with which no sound line can begin; or the end of words with which one can begin, but which are none
+pub data Refused (end : ℕ) (ws : List Piece) : ℕ → ℕ → Type 0 where
+  word_refused : (before : List Piece) (w : Piece) (after : List Piece) → ws ≡ before ++ (w ∷ after) → Begins (kinds before)
+      → (Begins (kinds before ++ (kind w.bytes ∷ [])) → ⊥) → Refused end ws (refusal_of (kind w.bytes)) w.place
+  too_short : 0 < length ws → Begins (kinds ws) → ((p : Production) → Says (kinds ws) p → ⊥) → Refused end ws 23 end
 
 -- what an outcome of a line means
 abbrev pub Means : ℕ → List Piece → Outcome → Type 0
 Means end ws nothing = ws ≡ []
 Means end ws (rule p) = Says (kinds ws) p
-Means end ws (fault n at) = WordRefused ws n at ⊎ LineTooShort end ws n at
+Means end ws (fault n at) = Refused end ws n at
 
 -- a word with a number of any length: over its limit it meets 21; with a leading zero before more it is unknown and meets 20
 pub record OfDigits (d : List ℕ) : Type 0 where

@@ -58,8 +58,7 @@ abbrev pub Ends : List ℕ → Type 0
 Ends [] = Unit {0}
 Ends (b ∷ rest) = parts b ≡ true
 
--- the text is these words in order, with only bytes that part words before, between and after them, none inside a word, no word empty,
--- and each at its place
+-- the text is these words in order, each at its place and none empty, with bytes that part words around them and none inside
 pub data Words : ℕ → List ℕ → List Piece → Type 0 where
   none : (at : ℕ) (gap : List ℕ) → AllAre parts true gap → Words at gap []
   next : (at : ℕ) (gap : List ℕ) (b : ℕ) (w : List ℕ) (rest : List ℕ) (ws : List Piece) → AllAre parts true gap → AllAre parts false (b ∷ w) → Ends rest
