@@ -7,7 +7,8 @@ use Rattle.text.specs.Words.{Piece, piece, pieces, ends_line, lines, words, line
 use Rattle.text.specs.Turns.{words_of, outcome_of, IsNextLine}
 use Rattle.text.specs.declared.lines.Line.{Line}
 use Rattle.text.specs.declared.lines.Lines.{Lines}
-use Rattle.text.specs.Outcomes.{Outcome, nothing, rule, fault, written, line, line_text, Writable, first_nine, in_nine}
+use Rattle.text.specs.Outcomes.{Outcome, nothing, rule, fault, written, line, line_text, Writable, in_nine}
+use Rattle.text.proofs.Short.{first_nine}
 use Rattle.text.proofs.Wording.{pieces_last, pieces_split, line_at}
 use Rattle.text.proofs.Cutting.{cut_into}
 use Rattle.text.proofs.Spelled.{of_kind}

@@ -3,27 +3,20 @@ use Rattle.std.proofs.Common.{◌≡◌, ℕ, zero, suc, ◌+◌, ◌*◌, ◌<�
 use Rattle.std.proofs.lemmas.List.{length-map}
 use Rattle.std.proofs.lemmas.Bool.{eqb-true, ne_eqb}
 use Rattle.grammar.specs.Lists.{those, each, count_up, below}
-use Rattle.grammar.proofs.Lists.{length_count_up}
+use Rattle.grammar.proofs.Lists.{length_count_up, length_those}
 use Rattle.grammar.specs.Productions.{Book}
 use Rattle.grammar.specs.Binarised.{terminal, OwnRule, rules_in, rules_of}
 use Rattle.grammar.specs.Nullable.{nullable}
 use Rattle.grammar.specs.Chains.{steps_by, steps, within, reached}
 use Rattle.grammar.specs.Strict.{strict_rule, proper, strict_rules_of, strict_rules}
-use Rattle.grammar.specs.Binarise.{terminal_rule, binarised, Admitted}
+use Rattle.grammar.specs.Binarise.{binarised, Admitted}
+use Rattle.grammar.proofs.Short.{terminal_rule}
 use Rattle.conversion.proofs.Found.{within_none}
 
 -- at most c for each
 each_length : {A B : Type 0} (f : A → List B) (xs : List A) (c : ℕ) → ((x : A) → length (f x) ≤ c) → length (each f xs) ≤ c * length xs
 each_length f [] c h = omega arith
 each_length f (x ∷ xs) c h = omega (arith, length-append (f x) (each f xs), h x, each_length f xs c h, mul-suc c (length xs))
-
--- no more than there are
-those_length : {A : Type 0} (p : A → Bool) (xs : List A) → length (those p xs) ≤ length xs
-those_length p [] = omega arith
-those_length p (x ∷ xs) = (elim (p x) as (λ b. p x ≡ b → length (cond b (x ∷ those p xs) (those p xs)) ≤ suc (length xs)) [
-  | true ↦ λ e. let h = those_length p xs in omega arith
-  | false ↦ λ e. let h = those_length p xs in omega arith
-]) refl
 
 -- the numbers from a on, one of them at most equal to x
 none_equal : (x a n : ℕ) → x < a → those (λ y. eqb x y) (count_up a n) ≡ []
@@ -84,7 +77,7 @@ unfolding strict_rules_of rules_of binarised
 strict_of_none T x =
     let B = binarised (none T) in
     let each-one = each_length (λ y. map (strict_rule x y) (those (λ (o : OwnRule). proper o.1) (rules_of B y))) (reached B x) 1
-    (λ y. omega (arith, length-map (those (λ (o : OwnRule). proper o.1) (rules_of B y)) (strict_rule x y), those_length (λ (o : OwnRule). proper o.1) (rules_of B y), one_rule y 0 T)) in
+    (λ y. omega (arith, length-map (those (λ (o : OwnRule). proper o.1) (rules_of B y)) (strict_rule x y), length_those (λ (o : OwnRule). proper o.1) (rules_of B y), one_rule y 0 T)) in
     omega (arith, reached_none T x, one-mul (length (reached B x)))
 
 -- at most one for each of the 64 symbols

@@ -1,5 +1,5 @@
 -- What each call does to the rules held, after any calls.
-use Rattle.std.proofs.Common.{◌≡◌, ℕ, eqb, List, [], ◌∷◌, ◌++◌, Ok, Err, Result, sym, refl, ap, ◌∙◌, arith}
+use Rattle.std.proofs.Common.{cond, ◌≡◌, ℕ, eqb, ◌==◌, List, [], ◌∷◌, ◌++◌, Ok, Err, Result, sym, refl, ap, ◌∙◌, arith}
 use Rattle.std.proofs.lemmas.List.Sums.{fold_push}
 use Rattle.std.proofs.lemmas.Bool.{cond-true, cond-false, eq-eqb, ne_eqb}
 use Rattle.grammar.specs.Productions.{Production}
@@ -13,7 +13,7 @@ use Rattle.book.specs.Rules.{held}
 use Rattle.book.specs.Offers.{refusal, Offered}
 use Rattle.book.specs.Loads.{load, load_is}
 use Rattle.book.specs.Strikes.{all_but_last, strike_refusal, Struck}
-use Rattle.book.specs.Runs.{Call, an_offer, a_load, a_strike, loaded, with_offer, after, held_after, RunsOn}
+use Rattle.book.specs.Runs.{Call, an_offer, a_load, a_strike, loaded, after, held_after, RunsOn}
 use Rattle.book.proofs.Refused.{some_refusal}
 
 -- before the first call
@@ -31,7 +31,7 @@ runs_by : (T : ℕ) (c : Call) (was is : List Production) → after T was c ≡ 
 runs_by T c was is h calls e = after_last T calls c ∙ ap (λ l. after T l c) e ∙ h
 
 -- an offer
-offer_after : (T : ℕ) (p : Production) (was is : Rules) (r : Result ℕ OfferFault) → Offered T held p was is r → with_offer T (held was) p ≡ held is
+offer_after : (T : ℕ) (p : Production) (was is : Rules) (r : Result ℕ OfferFault) → Offered T held p was is r → cond (refusal T (held was) p == 0) (held was ++ (p ∷ [])) (held was) ≡ held is
 offer_after T p was is (Ok n) h = cond-true (eqb (refusal T (held was) p) 0) (held was ++ (p ∷ [])) (held was) (eq-eqb (refusal T (held was) p) 0 h.0) ∙ sym h.2
 offer_after T p was is (Err f) h =
     cond-false (eqb (refusal T (held was) p) 0) (held was ++ (p ∷ [])) (held was) (ne_eqb (refusal T (held was) p) 0 (λ z. omega (arith, h.0, some_refusal f)))

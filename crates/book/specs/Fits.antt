@@ -1,7 +1,6 @@
 -- Which pattern fits which event.
 use Rattle.std.specs.Prelude.{◌≡◌, ℕ, zero, suc, ◌<◌, ◌≤◌, ◌↔◌, Bool, T, true, false, ◌&&◌, List, [], ◌∷◌, length, ◌==◌, nat_le, slice_index_or}
-use Rattle.book.specs.declared.kinds.CardEvent.{CardEvent}
-use Rattle.book.specs.declared.kinds.CardPattern.{CardPattern}
+use Rattle.book.specs.declared.{kinds.CardEvent.CardEvent, kinds.CardPattern.CardPattern}
 
 -- a card pattern fits an event of its kind whose argument lies in its range
 abbrev pub CardFits : CardPattern → CardEvent → Type 0

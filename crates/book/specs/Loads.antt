@@ -1,15 +1,11 @@
 -- What a load does: the lines of its text are offered in turn, up to the first that meets a number.
 use Rattle.std.specs.Prelude.{◌≡◌, ℕ, suc, ◌+◌, ◌≤◌, Bool, true, false, cond, List, [], ◌∷◌, ◌++◌, length, Ok, Err, Result, ◌==◌}
 use Rattle.text.specs.declared.fault.LineFault.{LineFault}
-use Rattle.text.specs.Kinds.{OfKind}
-use Rattle.text.specs.Words.{Piece, lines, line_words, CutInto}
+use Rattle.text.specs.{Kinds.OfKind, Words.Piece, Words.lines, Words.line_words, Words.CutInto}
 use Rattle.text.specs.Outcomes.{Outcome, nothing, rule, fault, line, line_text, kinds, Says, Means, OfDigits}
-use Rattle.grammar.specs.Lists.{Mem}
-use Rattle.grammar.specs.Productions.{Production}
-use Rattle.book.specs.Faults.{load_number, load_place}
-use Rattle.book.specs.Offers.{refusal}
-use Rattle.book.specs.declared.fault.LoadFault.{LoadFault}
-use Rattle.book.specs.declared.fault.LoadFault.TheVariants.{Line}
+use Rattle.grammar.specs.{Lists.Mem, Productions.Production}
+use Rattle.book.specs.{Faults.load_number, Faults.load_place, Offers.refusal}
+use Rattle.book.specs.declared.{fault.LoadFault.LoadFault, fault.LoadFault.TheVariants.Line}
 
 -- the fault of a line, as the load's
 abbrev pub line_fault : LineFault → LoadFault
@@ -36,7 +32,6 @@ offer_line T rules n at nothing = taken rules n
 offer_line T rules n at (rule p) = cond (refusal T rules p == 0) (taken (rules ++ (p ∷ [])) (suc n)) (stopped rules 24 at)
 offer_line T rules n at (fault number place) = stopped rules number place
 
--- where a line ends
 abbrev pub end_of : Piece → ℕ
 end_of l = l.place + length l.bytes
 
@@ -59,25 +54,19 @@ abbrev pub later : ℕ → ℕ → Load → Load
 later n k (taken rules m) = taken rules (n + m)
 later n k (stopped rules number at) = stopped rules number (k + at)
 
--- the rules held before stand, and after them come those of the lines offered: as many as the answer says; or the load is stopped by
--- one of the numbers 20 to 24, at a place within the text
+-- the rules held before stand, then those of the lines offered: as many as the answer says, or up to a number 20 to 24 at a place in the text
 abbrev pub Stands : ℕ → List Production → Load → Type 0
 Stands size was (taken is n) = (more : List Production) × (is ≡ was ++ more) × (n ≡ length more)
 Stands size was (stopped is number at) = (more : List Production) × (is ≡ was ++ more) × (20 ≤ number) × (number ≤ 24) × (at ≤ size)
 
--- what a load means
 pub record LoadMeans (T : ℕ) (rules : List Production) (text : List ℕ) : Type 0 where
   -- lines and words are longest stretches between the bytes that part them, with their places
   pub cut : CutInto 0 text
-  -- a word is what it is spelled as
   pub spelled : (w : List ℕ) → OfKind w
-  -- a number may have any number of digits
   pub digits : (d : List ℕ) → OfDigits d
   -- what a line gives is what its words say, or the refusal of the first word with which no sound line can begin, or of its end
   pub each_line : (l : Piece) → Mem l (lines 0 text) → Means (end_of l) (line_words l) (line (end_of l) (line_words l))
-  -- a sound line gives its production
   pub sound_line : (l : Piece) (p : Production) → Mem l (lines 0 text) → Says (kinds (line_words l)) p → line (end_of l) (line_words l) ≡ rule p
-  -- the rules held before stand, and a refusal lies within the text
   pub stands : Stands (length text) rules (load T rules text)
   -- two texts with a line feed between them are loaded one after the other; so a load is its lines, one by one
   pub one_by_one : (a b : List ℕ) → text ≡ a ++ (10 ∷ b) → load T rules text ≡ and_then (load T rules a) (λ held m. later m (suc (length a)) (load T held b))

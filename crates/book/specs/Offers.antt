@@ -1,19 +1,13 @@
 -- What an offer meets, and what the book then holds.
 use Rattle.std.specs.Prelude.{◌≡◌, ℕ, ◌+◌, Bool, cond, ◌&&◌, leb, List, [], ◌∷◌, ◌++◌, length, Ok, Err, Result, ◌==◌, nat_le, nat_lt}
-use Rattle.grammar.specs.Lists.{some_of, same_numbers}
-use Rattle.grammar.specs.Productions.{Production, Book, all_tails}
-use Rattle.grammar.specs.Binarise.{binarised}
-use Rattle.grammar.specs.Strict.{strict_rules}
+use Rattle.grammar.specs.{Lists.some_of, Lists.same_numbers, Productions.Production, Productions.Book, Productions.all_tails}
+pub use Rattle.grammar.specs.Productions.{book}
+use Rattle.grammar.specs.{Binarise.binarised, Strict.strict_rules}
 use Rattle.book.specs.declared.fault.OfferFault.{OfferFault}
 use Rattle.book.specs.Faults.{offer_number}
 
--- the two have the same head and right side
 abbrev pub same_rule : Production → Production → Bool
 same_rule p q = p.head == q.head && same_numbers p.right q.right
-
--- the book of these rules over T patterns
-abbrev pub book : ℕ → List Production → Book
-book T rules = record { productions = rules; patterns = T }
 
 -- the number of the refusal of a book for its size: too many tails, too many strict rules; 0 for none
 abbrev pub size_refusal : Book → ℕ
@@ -21,8 +15,7 @@ size_refusal W =
     cond (nat_lt 64 (all_tails W.productions)) 6
     (cond (nat_lt 1024 (length (strict_rules (binarised W)))) 7 0)
 
--- the number of the first refusal that rule p meets, offered to a book of T patterns that holds these rules; 0 for none. The last
--- two count with the new rule in
+-- the first refusal that rule p meets, offered to a book of T patterns that holds these rules; 0 for none. The last two count with it in
 abbrev pub refusal : ℕ → List Production → Production → ℕ
 refusal T rules p =
     cond (nat_lt 31 p.head) 1
@@ -32,8 +25,7 @@ refusal T rules p =
     (cond (nat_le 64 (length rules)) 5
     (size_refusal (book T (rules ++ (p ∷ []))))))))
 
--- rule p was offered to a book of T patterns that held the rules `was`: it is admitted at the end, and its number is answered,
--- or it is refused, and the book, all of it, is as before
+-- rule p is admitted at the end, and its number is answered, or it is refused, and the book, all of it, is as before
 abbrev pub Offered : {B : Type 0} → ℕ → (B → List Production) → Production → B → B → Result ℕ OfferFault → Type 0
 Offered T held p was is (Ok n) = (refusal T (held was) p ≡ 0) × (n ≡ length (held was)) × (held is ≡ held was ++ (p ∷ []))
 Offered T held p was is (Err f) = (refusal T (held was) p ≡ offer_number f) × (is ≡ was)

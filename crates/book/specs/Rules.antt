@@ -1,15 +1,13 @@
 -- The rules that a book holds.
 use Rattle.std.specs.Prelude.{ℕ, List, map, slice_index}
 use Rattle.grammar.specs.Productions.{Production, Book}
-use Rattle.conversion.specs.Rows.{production_of}
-use Rattle.conversion.specs.Binarised.{rows_book}
+use Rattle.conversion.specs.{Rows.production_of, Binarised.rows_book}
 use Rattle.book.specs.declared.rules.Rules.{Rules}
 
 -- the rules held, numbered from 0 as they were admitted
 abbrev pub held : Rules → List Production
 held b = map production_of b.rows.items
 
--- the book of the rules held
 abbrev pub rules_book : Rules → Book
 rules_book b = rows_book b.rows.items b.patterns
 

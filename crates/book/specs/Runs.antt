@@ -2,9 +2,7 @@
 use Rattle.std.specs.Prelude.{◌≡◌, ℕ, cond, List, [], ◌∷◌, ◌++◌, fold, ◌==◌}
 use Rattle.grammar.specs.Productions.{Production}
 use Rattle.conversion.specs.Rows.{written}
-use Rattle.book.specs.Offers.{refusal}
-use Rattle.book.specs.Loads.{Load, taken, stopped, load}
-use Rattle.book.specs.Strikes.{all_but_last}
+use Rattle.book.specs.{Offers.refusal, Loads.Load, Loads.taken, Loads.stopped, Loads.load, Strikes.all_but_last}
 
 -- a call with its arguments: an offer of a head, items and a cost, a load of a text, a strike
 pub data Call : Type 0 where
@@ -17,13 +15,10 @@ abbrev pub loaded : Load → List Production
 loaded (taken rules n) = rules
 loaded (stopped rules number at) = rules
 
--- the rules with one more at the end, unless its offer to a book of T patterns meets a refusal
-abbrev pub with_offer : ℕ → List Production → Production → List Production
-with_offer T rules p = cond (refusal T rules p == 0) (rules ++ (p ∷ [])) rules
-
 -- the rules held after a call on a book of T patterns that held these
 abbrev pub after : ℕ → List Production → Call → List Production
-after T rules (an_offer head items cost) = with_offer T rules (written head items cost)
+after T rules (an_offer head items cost) =
+    cond (refusal T rules (written head items cost) == 0) (rules ++ (written head items cost ∷ [])) rules
 after T rules (a_load text) = loaded (load T rules text)
 after T rules a_strike = all_but_last rules
 

@@ -15,8 +15,7 @@ abbrev pub strike_refusal : List Production → ℕ
 strike_refusal [] = 10
 strike_refusal (p ∷ ps) = 0
 
--- the last rule of a book that held the rules `was` is struck: it is taken away, and how many remain is answered, or the strike is
--- refused, and the book, all of it, is as before
+-- the last rule held is taken away, and how many remain is answered, or the strike is refused, and the book, all of it, is as before
 abbrev pub Struck : {B : Type 0} → (B → List Production) → B → B → Result ℕ StrikeFault → Type 0
 Struck held was is (Ok n) = (strike_refusal (held was) ≡ 0) × (n ≡ length (held is)) × (held is ≡ all_but_last (held was))
 Struck held was is (Err f) = (strike_refusal (held was) ≡ strike_number f) × (is ≡ was)

@@ -1,9 +1,7 @@
 -- What the check of a table of patterns meets.
 use Rattle.std.specs.Prelude.{◌≡◌, ℕ, cond, List, length, Ok, Err, Result, nat_lt}
-use Rattle.book.specs.declared.alphabet.Alphabet.{Ghosts}
+use Rattle.book.specs.declared.{alphabet.Alphabet.Ghosts, fault.TableFault.TableFault, table.PatternTable.PatternTable}
 use Rattle.book.specs.Faults.{table_number}
-use Rattle.book.specs.declared.fault.TableFault.{TableFault}
-use Rattle.book.specs.declared.table.PatternTable.{PatternTable}
 
 -- the number of the refusal of so many patterns; 0 for none
 abbrev pub table_refusal : {P : Type 0} → List P → ℕ

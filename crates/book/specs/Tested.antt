@@ -1,4 +1,4 @@
--- The tests of the alphabets say yes exactly of what fits.
+-- Proofs, not definitions: the tests of the alphabets say yes exactly of what fits.
 use Rattle.std.specs.Prelude.{◌≡◌, ℕ, Bool, true, false, T, ◌&&◌, nat_eq}
 use Rattle.std.proofs.Math.Facts.{eqb_yes, yes_eqb, leb_yes, yes_leb}
 use Rattle.book.specs.Fits.{CardFits, card_test, Tests}

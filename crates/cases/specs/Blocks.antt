@@ -21,8 +21,7 @@ with_ends (block ∷ blocks) = block ++ (codes "end" ∷ with_ends blocks)
 abbrev pub NoEnds : List (List (List ℕ)) → Type 0
 NoEnds blocks = All (λ block. All (λ line. line ≢ codes "end") block) blocks
 
--- lines were parted: they are the lines of the blocks, each followed by the line end, and no block has a line end; or the last
--- line is not the line end; or memory is wanting
+-- lines are parted into the lines of blocks, each block without a line end and followed by one; or the last is no line end; or memory is wanting
 abbrev pub Parted : {Z : Type 0} → List (List ℕ) → Result (Vec (Bor (List (Bor (List ℕ)))) Z) BlockFault → Type 0
 Parted lines (Ok v) = (lines ≡ with_ends (block_texts (vec_items v))) × NoEnds (block_texts (vec_items v))
 Parted lines (Err NoEnd) = (front : List (List ℕ)) → lines ≢ front ++ (codes "end" ∷ [])

@@ -4,3 +4,4 @@
 pub mod agreement;
 pub mod blocks;
 pub mod books;
+pub mod cards;

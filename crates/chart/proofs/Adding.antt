@@ -3,7 +3,8 @@ use Rattle.std.proofs.Common.{◌≡◌, ℕ, ◌+◌, ◌<◌, ◌≤◌, cond,
 use Rattle.std.proofs.lemmas.List.{get_or-set_same, get_or-set_other}
 use Rattle.std.proofs.lemmas.Bool.{cases_eq, cond-true, cond-false, eq-eqb, ne_eqb}
 use Rattle.grammar.specs.Semiring.{Ops, Semiring}
-use Rattle.chart.specs.Table.{cell_at, Added, Cleared}
+use Rattle.chart.specs.Table.{cell_at}
+use Rattle.chart.specs.Inner.{Added, Cleared}
 use Rattle.chart.proofs.SumLaws.{plus_none}
 use Rattle.chart.proofs.Outside.{same_all, same_then, same_set, same_wider}
 

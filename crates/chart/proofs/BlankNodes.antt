@@ -1,6 +1,6 @@
 -- The nodes of a chosen tree without events, by the productions as they are written, and the rounds that find its symbols.
-use Rattle.std.proofs.Common.{◌≡◌, ℕ, zero, suc, ◌+◌, ◌<◌, ◌≤◌, true, false, ltb, List, [], ◌∷◌, ◌++◌, length, get_or, take, drop, sym, refl, ap, ◌∙◌, subst, ap₂, append_assoc, inl, inr, arith}
-use Rattle.std.proofs.lemmas.Bool.{both_ways, false≢true, cases_lt, cases_Bool, lt-ltb, le-ltb, cond-true, cond-false, or_cases, and_parts, and_from}
+use Rattle.std.proofs.Common.{◌≡◌, ℕ, zero, suc, ◌+◌, ◌<◌, ◌≤◌, true, false, List, [], ◌∷◌, ◌++◌, length, get_or, take, drop, sym, refl, ap, ◌∙◌, subst, ap₂, append_assoc, inl, inr, arith}
+use Rattle.std.proofs.lemmas.Bool.{both_ways, false≢true, cases_lt, cases_Bool, or_cases, and_parts, and_from}
 use Rattle.std.proofs.lemmas.List.{append-nil, take_more, take-append-drop}
 use Rattle.grammar.specs.Lists.{Mem}
 use Rattle.grammar.specs.Binarised.{Right, empty, unit, binary, terminal, Rule, rule, Binarised, Bounded, Has, OwnRule, rules_of, Tree, fork, width}
@@ -19,16 +19,9 @@ use Rattle.conversion.specs.declared.nullable.Brought.{Brought}
 use Rattle.conversion.proofs.Each.{each_append}
 use Rattle.conversion.proofs.Bringing.{held_on, held_last}
 use Rattle.conversion.proofs.Walking.{brings_ready, brings_tree}
-use Rattle.chart.specs.Blanks.{blank_nodes, AllBlank}
+use Rattle.chart.specs.Inner.{blank_nodes, AllBlank}
 use Rattle.chart.proofs.BlankRounds.{rounds_in, most_rounds, rounds_low, rounds_high, rounds_under}
-
--- the node of a rule of a head
-head_mark : (x n at k : ℕ) (l : List Node) → x < 32 → mark x n at k l ≡ record { rule = n; first = at; count = k } ∷ l
-head_mark x n at k l h = cond-true (ltb x 32) (record { rule = n; first = at; count = k } ∷ l) l (lt-ltb x 32 h)
-
--- a rule of a tail has none
-no_mark : (x n at k : ℕ) (l : List Node) → 32 ≤ x → mark x n at k l ≡ l
-no_mark x n at k l h = cond-false (ltb x 32) (record { rule = n; first = at; count = k } ∷ l) l (le-ltb x 32 h)
+use Rattle.grammar.proofs.Marks.{head_mark, no_mark}
 
 -- of a binary rule over two trees without events
 fork_nodes : (at x n : ℕ) (s t : Tree) (l : List Node) → width s ≡ 0 → width t ≡ 0 → tree_nodes at t ≡ l

@@ -7,7 +7,8 @@ use Rattle.grammar.specs.Lists.{Mem, First, Cut, some_of, cuts, count_up, span}
 use Rattle.grammar.specs.Binarised.{Right, unit, binary, terminal, Binarised, Bounded, Has, Tree, leaf, fork}
 use Rattle.grammar.specs.Chains.{ChainStep, Leads, UnitChain, nothing, the_right, the_left, chosen_chain}
 use Rattle.grammar.specs.Strict.{StrictFormRule, proper, strict_rules, strict_rules_of}
-use Rattle.grammar.specs.Taken.{step_over, chain_over, each_yes, yes_cell, rule_fits, cut_fits, Takes, takes_terminal, takes_binary}
+use Rattle.grammar.specs.Taken.{step_over, chain_over, yes_cell, rule_fits, cut_fits, Takes, takes_terminal, takes_binary}
+use Rattle.grammar.proofs.Short.{each_yes}
 use Rattle.grammar.specs.Cells.{over_events}
 use Rattle.grammar.specs.Weighings.{yes_no}
 use Rattle.grammar.specs.Productions.{Book, Sound}
@@ -30,7 +31,7 @@ use Rattle.conversion.specs.Views.{drop_of, step_of, strict_rule_of}
 use Rattle.conversion.specs.Linked.{Chosen}
 use Rattle.conversion.proofs.Walking.{shortest_chain}
 use Rattle.book.proofs.Held.{seen}
-use Rattle.chart.specs.Choices.{cut_after, FirstCut}
+use Rattle.chart.specs.Inner.{cut_after, FirstCut}
 use Rattle.chart.proofs.Firsts.{first_one, first_at, none_more, some_those, first_those, some_map, first_map}
 use Rattle.chart.proofs.StrictWeights.{chosen_there}
 

@@ -8,9 +8,8 @@ use Rattle.grammar.specs.Strict.{StrictFormRule, strict_rules}
 use Rattle.grammar.specs.Cells.{terminal_fits}
 use Rattle.conversion.specs.Views.{right_side_of, strict_rule_of}
 use Rattle.chart.specs.declared.weighed.WeighedRule.{WeighedRule}
-use Rattle.chart.specs.Table.{Added}
+use Rattle.chart.specs.Inner.{Added, over_event}
 use Rattle.chart.specs.Weights.{Weighs}
-use Rattle.chart.specs.Charts.{over_event}
 use Rattle.chart.proofs.SumLaws.{sum_more}
 use Rattle.chart.proofs.Adding.{added_none, added_then, added_as}
 use Rattle.chart.proofs.RuleSums.{events_sum, all_events, weighed_at}

@@ -13,8 +13,9 @@ use Rattle.grammar.proofs.Lists.{those_mem, count_up_mem}
 use Rattle.grammar.proofs.Sums.{sum_cong, sum_map}
 use Rattle.grammar.proofs.StrictFound.{strict_found}
 use Rattle.grammar.proofs.Chart.{span_equations}
-use Rattle.chart.specs.Table.{column_place, cell_place, cell_at, SameOutside, Added, AddedStarts, Cleared}
-use Rattle.chart.specs.Charts.{over_event, over_parts, HoldsChart}
+use Rattle.chart.specs.Table.{column_place, cell_place, cell_at, SameOutside}
+use Rattle.chart.specs.Inner.{Added, AddedStarts, Cleared, over_event, over_parts}
+use Rattle.chart.specs.Charts.{HoldsChart}
 use Rattle.chart.proofs.SumLaws.{sum_exchange}
 use Rattle.chart.proofs.Outside.{same_all, same_then, same_wider}
 use Rattle.chart.proofs.RuleSums.{parts_within}

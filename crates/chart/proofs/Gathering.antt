@@ -10,8 +10,7 @@ use Rattle.conversion.specs.Views.{strict_rule_of}
 use Rattle.chart.specs.declared.pairs.Pair.{Pair}
 use Rattle.chart.specs.declared.weighed.WeighedRule.{WeighedRule}
 use Rattle.chart.specs.Weights.{Weighs}
-use Rattle.chart.specs.Charts.{over_parts}
-use Rattle.chart.specs.Pairs.{pairs_sum, PairsWithin, PairAdded}
+use Rattle.chart.specs.Inner.{over_parts, pairs_sum, PairsWithin, PairAdded}
 use Rattle.chart.proofs.SumLaws.{sum_more}
 use Rattle.chart.proofs.PairSums.{side_sum}
 use Rattle.chart.proofs.RuleSums.{rules_sum, all_parts, weighed_at, weighed_mem, parts_within}

@@ -8,7 +8,8 @@ use Rattle.grammar.specs.Answers.{limit, filled, answer, number, refused}
 use Rattle.grammar.proofs.Tables.{tables}
 use Rattle.chart.specs.declared.node.Node.{Node}
 use Rattle.chart.specs.declared.node_table.NodeTable.{NodeTable}
-use Rattle.chart.specs.Nodes.{node_of, nodes_of, Wrote, room, SameTable}
+use Rattle.chart.specs.Nodes.{node_of, nodes_of}
+use Rattle.chart.specs.Inner.{Wrote, room, SameTable}
 
 -- as long as there is room
 filled_fits : (ks t : List TreeNode) → length ks ≤ limit (length t) → filled ks t ≡ ks ++ drop (length ks) t

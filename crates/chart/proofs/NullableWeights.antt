@@ -16,7 +16,8 @@ use Rattle.conversion.specs.Views.{right_side_of}
 use Rattle.conversion.specs.Held.{Brings, BroughtIn}
 use Rattle.conversion.proofs.Bringing.{held_on, held_last}
 use Rattle.conversion.proofs.Walking.{brings_ready, brings_tree}
-use Rattle.chart.specs.Weights.{blank_weight, right_weight, WeightsAfter, NullableWeights}
+use Rattle.chart.specs.Weights.{blank_weight, NullableWeights}
+use Rattle.chart.specs.Inner.{WeightsAfter, right_weight}
 
 -- the weight that k rounds leave x with
 abbrev after : {V : Type 0} → Ops V → Book → ℕ → ℕ → V

@@ -6,10 +6,10 @@ use Rattle.grammar.specs.Lists.{Mem}
 use Rattle.grammar.specs.Semiring.{Ops, Semiring}
 use Rattle.grammar.proofs.Lists.{those_mem}
 use Rattle.grammar.proofs.Sums.{sum_cong}
-use Rattle.conversion.proofs.Firsts.{get_d_mem}
+use Rattle.grammar.proofs.BinarisedRules.{get_d_mem}
 use Rattle.chart.specs.declared.pairs.Pair.{Pair}
-use Rattle.chart.specs.Table.{column_place, cell_place, cell_at, SameOutside, Added, AddedStarts}
-use Rattle.chart.specs.Pairs.{pairs_sum, PairsWithin}
+use Rattle.chart.specs.Table.{column_place, cell_place, cell_at, SameOutside}
+use Rattle.chart.specs.Inner.{Added, AddedStarts, pairs_sum, PairsWithin}
 use Rattle.chart.proofs.PairSums.{pairs_push}
 use Rattle.chart.proofs.SumLaws.{plus_none}
 use Rattle.chart.proofs.Outside.{same_all, same_then, same_wider}

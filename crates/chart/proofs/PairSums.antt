@@ -11,7 +11,7 @@ use Rattle.conversion.specs.declared.right.Right.{Right}
 use Rattle.conversion.specs.declared.right.Right.TheVariants.{Empty, Unit, Binary, Terminal}
 use Rattle.conversion.specs.declared.strict.StrictRule.{StrictRule}
 use Rattle.chart.specs.declared.pairs.Pair.{Pair}
-use Rattle.chart.specs.Pairs.{pairs_sum, PairAdded}
+use Rattle.chart.specs.Inner.{pairs_sum, PairAdded}
 use Rattle.chart.proofs.SumLaws.{plus_none, sum_push, sum_cond}
 
 -- what a right side comes to over a left and a right cell

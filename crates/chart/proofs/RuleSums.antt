@@ -11,12 +11,11 @@ use Rattle.grammar.specs.Cells.{is_binary, sides, terminal_fits}
 use Rattle.grammar.specs.Weights.{strict_weight_of}
 use Rattle.grammar.proofs.StrictFound.{strict_found}
 use Rattle.grammar.proofs.StrictOrder.{strict_listed}
-use Rattle.grammar.proofs.BinarisedRules.{binarised_within}
+use Rattle.grammar.proofs.BinarisedRules.{binarised_within, get_d_mem}
 use Rattle.conversion.specs.Views.{strict_rule_of}
-use Rattle.conversion.proofs.Firsts.{get_d_mem}
 use Rattle.chart.specs.declared.weighed.WeighedRule.{WeighedRule}
 use Rattle.chart.specs.Weights.{Weighs}
-use Rattle.chart.specs.Charts.{over_event, over_parts}
+use Rattle.chart.specs.Inner.{over_event, over_parts}
 use Rattle.chart.proofs.SumLaws.{sum_cond}
 use Rattle.chart.proofs.PairSums.{side_sum}
 

@@ -1,5 +1,5 @@
 -- What each call does to the events held, after any calls.
-use Rattle.std.proofs.Common.{◌≡◌, ℕ, ◌+◌, ◌-◌, ◌<◌, ◌≤◌, ◌⊎◌, Bool, eqb, List, [], ◌∷◌, ◌++◌, length, take, drop, Ok, Err, Result, sym, refl, ap, ap₂, ◌∙◌, subst, ⊎_elim, arith}
+use Rattle.std.proofs.Common.{cond, ◌==◌, ◌≡◌, ℕ, ◌+◌, ◌-◌, ◌<◌, ◌≤◌, ◌⊎◌, Bool, eqb, List, [], ◌∷◌, ◌++◌, length, take, drop, Ok, Err, Result, sym, refl, ap, ap₂, ◌∙◌, subst, ⊎_elim, arith}
 use Rattle.std.proofs.lemmas.Bool.Decides.{nat_tests}
 use Rattle.std.proofs.lemmas.Bool.{cond-true, cond-false, eq-eqb, ne_eqb}
 use Rattle.std.proofs.lemmas.List.{take-append-drop, length-take-le}
@@ -23,7 +23,7 @@ use Rattle.chart.specs.Table.{column_place}
 use Rattle.chart.specs.Charts.{HoldsChart}
 use Rattle.chart.specs.Events.{chart_symbols, Holds}
 use Rattle.chart.specs.Feeds.{feed_refusal, withdraw_refusal, FedEvent, Withdrawn}
-use Rattle.chart.specs.Runs.{ChartCall, a_feed, a_withdraw, with_feed, without_last, after, held_events, HoldsAfter, RunsOn}
+use Rattle.chart.specs.Runs.{ChartCall, a_feed, a_withdraw, after, held_events, HoldsAfter, RunsOn}
 use Rattle.chart.proofs.Places.{start_mono}
 
 -- where no room is, a feed is refused
@@ -74,7 +74,7 @@ module _ {A K E P V U : Type 0} {G : Ghosts A E P} {H : Weighings K V U} {B : Ba
 
   -- a feed
   feed_after : (e : E) (was is : Chart A K E P V U G H B) (r : Result ℕ FeedFault) → FedEvent M test e was is r
-      → (es : List E) → Holds M test was es → Holds M test is (with_feed (chart_symbols was) (length was.weights.now) es e)
+      → (es : List E) → Holds M test was es → Holds M test is (cond (feed_refusal (chart_symbols was) (length was.weights.now) (length es) == 0) (es ++ (e ∷ [])) es)
   feed_after e was is (Ok r) fed es h =
       let S = chart_symbols was in
       let m = length was.weights.now in
@@ -93,7 +93,7 @@ module _ {A K E P V U : Type 0} {G : Ghosts A E P} {H : Weighings K V U} {B : Ba
 
   -- a withdrawal
   withdraw_after : (k : ℕ) (was is : Chart A K E P V U G H B) (r : Result ℕ WithdrawFault) → Withdrawn M test k was is r
-      → (es : List E) → Holds M test was es → Holds M test is (without_last es k)
+      → (es : List E) → Holds M test was es → Holds M test is (cond (withdraw_refusal (length es) k == 0) (take (length es - k) es) es)
   withdraw_after k was is (Ok r) gone es h =
       let none : withdraw_refusal (length es) k ≡ 0 = ap (λ n. withdraw_refusal n k) h.many ∙ gone.0 in
       subst (Holds M test is) (sym (cond-true (eqb (withdraw_refusal (length es) k) 0) (take (length es - k) es) es (eq-eqb (withdraw_refusal (length es) k) 0 none))) (gone.3 es h)

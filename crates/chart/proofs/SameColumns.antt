@@ -5,7 +5,7 @@ use Rattle.weighing.specs.declared.weighing.Weighing.{Ghosts as Weighings}
 use Rattle.weighing.specs.declared.bank.Bank.{Ghosts as Banks}
 use Rattle.book.specs.declared.books.ClosedBook.{ClosedBook}
 use Rattle.chart.specs.declared.column.Column.{Column}
-use Rattle.chart.specs.Columns.{SameColumn}
+use Rattle.chart.specs.Inner.{SameColumn}
 
 module _ {A K E P V U : Type 0} {G : Ghosts A E P} {H : Weighings K V U} {B : Banks U V} where
   pub same_column : (c : Column A K E P V U G H B) → SameColumn c c

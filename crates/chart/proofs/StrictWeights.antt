@@ -25,7 +25,8 @@ use Rattle.conversion.specs.Linked.{Chosen}
 use Rattle.conversion.proofs.Walking.{shortest_chain}
 use Rattle.book.proofs.Held.{seen}
 use Rattle.chart.specs.declared.weighed.WeighedRule.{WeighedRule}
-use Rattle.chart.specs.Weights.{blank_weight, dropped_weight, NullableWeights, Weighs}
+use Rattle.chart.specs.Weights.{blank_weight, NullableWeights, Weighs}
+use Rattle.chart.specs.Inner.{dropped_weight}
 
 -- the weight of the chosen chain from x to y
 abbrev chosen_weight : {V : Type 0} → Ops V → Book → ℕ → ℕ → V

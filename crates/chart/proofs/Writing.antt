@@ -1,6 +1,5 @@
 -- What stands below a choice, and the nodes of the derivation that it takes.
-use Rattle.std.proofs.Common.{◌≡◌, ℕ, zero, suc, ◌+◌, ◌<◌, ◌≤◌, Bool, true, false, ltb, Some, List, [], ◌∷◌, ◌++◌, length, drop, get_or, sym, refl, ap, ◌∙◌, subst, ap₂, inl, inr, true≢false, arith}
-use Rattle.std.proofs.lemmas.Bool.{lt-ltb, le-ltb, cond-true, cond-false}
+use Rattle.std.proofs.Common.{◌≡◌, ℕ, zero, suc, ◌+◌, ◌<◌, ◌≤◌, Bool, true, false, Some, List, [], ◌∷◌, ◌++◌, length, drop, get_or, sym, refl, ap, ◌∙◌, subst, ap₂, inl, inr, true≢false, arith}
 use Rattle.std.proofs.lemmas.List.{append-nil}
 use Rattle.grammar.specs.Lists.{Mem, span}
 use Rattle.grammar.specs.Productions.{Production, production, Book, Sound, right_of, first_tail}
@@ -8,7 +7,7 @@ use Rattle.grammar.specs.Binarised.{Right, empty, unit, binary, terminal, Binari
 use Rattle.grammar.specs.Binarise.{one_item, binarise_right, binarised}
 use Rattle.grammar.specs.Nullable.{nullable, nullable_tree}
 use Rattle.grammar.specs.Chains.{Dropped, nothing, the_right, the_left, Leads}
-use Rattle.grammar.specs.Nodes.{Node, mark, tree_nodes}
+use Rattle.grammar.specs.Nodes.{tree_nodes}
 use Rattle.grammar.specs.Taken.{step_over, yes_cell, Takes}
 use Rattle.grammar.proofs.Theorems.{reading_plain, reading_one, reading_exact}
 use Rattle.grammar.proofs.Once.{derives_width}
@@ -18,18 +17,11 @@ use Rattle.grammar.proofs.BinarisedRules.{binarised_bounded, binarised_has, bina
 use Rattle.conversion.specs.Views.{drop_of}
 use Rattle.chart.specs.declared.choice.Choice.{Choice}
 use Rattle.chart.specs.declared.choice.Choice.TheVariants.{Step, Leaf, Fork}
-use Rattle.chart.specs.Choices.{choice_number, ChoiceAt, ChoiceTaken}
-use Rattle.chart.specs.Blanks.{blank_nodes, AllBlank}
-use Rattle.chart.specs.Writing.{RuleOver, Stands, below_root}
+use Rattle.chart.specs.Inner.{choice_number, ChoiceAt, ChoiceTaken, RuleOver, Stands, below_root, blank_nodes, AllBlank}
 use Rattle.chart.proofs.BlankNodes.{first_right, first_pair, blank_width, tail_nodes, nullable_head, item_below}
+use Rattle.grammar.proofs.Marks.{head_mark, no_mark}
 
 -- the nodes of a tree by its root: of a head its node first, of a tail those below alone
-
-head_mark : (x n i k : ℕ) (l : List Node) → x < 32 → mark x n i k l ≡ record { rule = n; first = i; count = k } ∷ l
-head_mark x n i k l h = cond-true (ltb x 32) (record { rule = n; first = i; count = k } ∷ l) l (lt-ltb x 32 h)
-
-no_mark : (x n i k : ℕ) (l : List Node) → 32 ≤ x → mark x n i k l ≡ l
-no_mark x n i k l h = cond-false (ltb x 32) (record { rule = n; first = i; count = k } ∷ l) l (le-ltb x 32 h)
 
 pub tail_below : (i : ℕ) (s : Tree) → 32 ≤ root s → tree_nodes i s ≡ below_root i s
 tail_below i (null x n) h = no_mark x n i 0 [] h

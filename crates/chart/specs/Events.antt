@@ -1,13 +1,9 @@
 -- The events that a chart holds.
 use Rattle.std.specs.Prelude.{◌≡◌, ℕ, Bool, List, length}
-use Rattle.grammar.specs.Productions.{Book}
-use Rattle.grammar.specs.Semiring.{Ops}
-use Rattle.grammar.specs.Binarise.{binarised}
-use Rattle.book.specs.Books.{closed_book, closed_fits}
-use Rattle.book.specs.Fits.{TestsTable}
+use Rattle.grammar.specs.{Productions.Book, Semiring.Ops, Binarise.binarised}
+use Rattle.book.specs.{Books.closed_book, Books.closed_fits, Fits.TestsTable}
 use Rattle.book.specs.declared.alphabet.Alphabet.{Ghosts}
-use Rattle.weighing.specs.declared.weighing.Weighing.{Ghosts as Weighings}
-use Rattle.weighing.specs.declared.bank.Bank.{Ghosts as Banks}
+use Rattle.weighing.specs.declared.{weighing.Weighing.Ghosts as Weighings, bank.Bank.Ghosts as Banks}
 use Rattle.chart.specs.declared.chart.Chart.{Chart}
 use Rattle.chart.specs.Charts.{HoldsChart}
 
@@ -15,7 +11,6 @@ use Rattle.chart.specs.Charts.{HoldsChart}
 abbrev pub chart_book : {A K E P V U : Type 0} {G : Ghosts A E P} {H : Weighings K V U} {B : Banks U V} → Chart A K E P V U G H B → Book
 chart_book c = closed_book c.book.now
 
--- its number of symbols, S
 abbrev pub chart_symbols : {A K E P V U : Type 0} {G : Ghosts A E P} {H : Weighings K V U} {B : Banks U V} → Chart A K E P V U G H B → ℕ
 chart_symbols c = (binarised (chart_book c)).symbols
 

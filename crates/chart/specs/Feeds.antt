@@ -1,15 +1,11 @@
 -- What a feed and a withdrawal meet, and what they leave.
 use Rattle.std.specs.Prelude.{◌≡◌, ℕ, ◌+◌, ◌-◌, cond, Bool, List, [], ◌∷◌, ◌++◌, length, take, Ok, Err, Result, nat_lt}
 use Rattle.grammar.specs.Semiring.{Ops}
-pub use Rattle.grammar.specs.Rooms.{feed_refusal}
+pub use Rattle.grammar.specs.Cells.{feed_refusal}
 use Rattle.book.specs.declared.alphabet.Alphabet.{Ghosts}
-use Rattle.weighing.specs.declared.weighing.Weighing.{Ghosts as Weighings}
-use Rattle.weighing.specs.declared.bank.Bank.{Ghosts as Banks}
-use Rattle.chart.specs.declared.chart.Chart.{Chart}
-use Rattle.chart.specs.declared.fault.FeedFault.{FeedFault}
-use Rattle.chart.specs.declared.fault.WithdrawFault.{WithdrawFault}
-use Rattle.chart.specs.Faults.{feed_number, withdraw_number}
-use Rattle.chart.specs.Table.{column_place, SameOutside}
+use Rattle.weighing.specs.declared.{weighing.Weighing.Ghosts as Weighings, bank.Bank.Ghosts as Banks}
+use Rattle.chart.specs.declared.{chart.Chart.Chart, fault.FeedFault.FeedFault, fault.WithdrawFault.WithdrawFault}
+use Rattle.chart.specs.{Faults.feed_number, Faults.withdraw_number, Table.column_place, Table.SameOutside}
 use Rattle.chart.specs.Events.{chart_symbols, Holds}
 
 -- the refusal of a feed to this chart

@@ -2,14 +2,10 @@ pub mod Faults
 pub mod Table
 pub mod Weights
 pub mod Charts
-pub mod Pairs
 pub mod Events
 pub mod Feeds
 pub mod Runs
 pub mod Totals
-pub mod Columns
-pub mod Choices
-pub mod Blanks
 pub mod Nodes
-pub mod Writing
 pub mod Readings
+pub mod Inner

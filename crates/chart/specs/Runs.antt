@@ -2,31 +2,21 @@
 use Rattle.std.specs.Prelude.{ℕ, ◌-◌, cond, Bool, List, [], ◌∷◌, ◌++◌, fold, length, take, ◌==◌}
 use Rattle.grammar.specs.Semiring.{Ops}
 use Rattle.book.specs.declared.alphabet.Alphabet.{Ghosts}
-use Rattle.weighing.specs.declared.weighing.Weighing.{Ghosts as Weighings}
-use Rattle.weighing.specs.declared.bank.Bank.{Ghosts as Banks}
+use Rattle.weighing.specs.declared.{weighing.Weighing.Ghosts as Weighings, bank.Bank.Ghosts as Banks}
 use Rattle.chart.specs.declared.chart.Chart.{Chart}
-use Rattle.chart.specs.Events.{chart_symbols, Holds}
-use Rattle.chart.specs.Feeds.{feed_refusal, withdraw_refusal}
+use Rattle.chart.specs.{Events.chart_symbols, Events.Holds, Feeds.feed_refusal, Feeds.withdraw_refusal}
 
 -- a call with its arguments: a feed of an event, a withdrawal of the last k
 pub data ChartCall (E : Type 0) : Type 0 where
   a_feed : E → ChartCall E
   a_withdraw : ℕ → ChartCall E
 
--- the events with one more at the end, unless its feed meets a refusal, in a table of m weights, S to a cell
-abbrev pub with_feed : {E : Type 0} → ℕ → ℕ → List E → E → List E
-with_feed S m es e = cond (feed_refusal S m (length es) == 0) (es ++ (e ∷ [])) es
-
--- the events without the last k, unless there are fewer
-abbrev pub without_last : {E : Type 0} → List E → ℕ → List E
-without_last es k = cond (withdraw_refusal (length es) k == 0) (take (length es - k) es) es
-
--- the events held after a call where these were held
+-- the events held after a call where these were held, in a table of m weights, S to a cell; a refused call leaves them
 abbrev pub after : {E : Type 0} → ℕ → ℕ → List E → ChartCall E → List E
-after S m es (a_feed e) = with_feed S m es e
-after S m es (a_withdraw k) = without_last es k
+after S m es (a_feed e) = cond (feed_refusal S m (length es) == 0) (es ++ (e ∷ [])) es
+after S m es (a_withdraw k) = cond (withdraw_refusal (length es) k == 0) (take (length es - k) es) es
 
--- the events held after these calls, in turn, on a new chart in a table of m weights, S to a cell
+-- the events held after these calls, in turn, on a new chart
 unfoldable pub held_events : {E : Type 0} → ℕ → ℕ → List (ChartCall E) → List E
 held_events S m calls = fold (after S m) [] calls
 

@@ -1,22 +1,17 @@
 -- What the total of a chart says of the events that it holds.
 use Rattle.std.specs.Prelude.{◌≡◌, ℕ, min, Bool, true, false, ◌↔◌, List, length}
-use Rattle.grammar.specs.Semiring.{Ops}
-use Rattle.grammar.specs.Productions.{Book, ProperBook}
-use Rattle.grammar.specs.Weighings.{yes_no, counts, costs}
-use Rattle.grammar.specs.Readings.{Reading, Reads}
-use Rattle.grammar.specs.PlainReadings.{PlainList, Unread}
-use Rattle.grammar.specs.Weights.{total_of}
+use Rattle.grammar.specs.{Semiring.Ops, Productions.Book, Productions.ProperBook, Weighings.yes_no, Weighings.counts, Weighings.costs}
+use Rattle.grammar.specs.{Readings.Reading, Readings.Reads, PlainReadings.PlainList, PlainReadings.Unread, Weights.total_of}
 use Rattle.grammar.specs.Promises.{PlainSum, WholeSum, YesCells, CellSets, Least}
 
--- r is the total of these events: that of the definition, which is the sum over the plain readings, and, where no production is empty or
--- one head alone, the sum over all readings
+-- r is the definition's total: the sum over the plain readings, and, where no production is empty or one head alone, over all readings
 pub record TotalIs (W : Book) {V E : Type 0} (M : Ops V) (fits : E → ℕ → Bool) (es : List E) (r : V) : Type 0 where
   pub is_total : r ≡ total_of W M fits es
   pub plain : PlainSum W M fits es
   pub whole : ProperBook W → WholeSum W M fits es
 
--- r says whether there is a reading of these events. The cells that it was worked out from are the sets of the Cocke-Younger-Kasami chart
--- of the strict grammar: those symbols that it rewrites to the events of the cell
+-- r says whether there is a reading, and the cells that it was worked out from are the sets of the strict grammar's chart: the symbols that
+-- it rewrites to the events of the cell
 pub record Explained (W : Book) {E : Type 0} (fits : E → ℕ → Bool) (es : List E) (r : Bool) : Type 0 where
   pub is_total : r ≡ total_of W yes_no fits es
   pub yes : (r ≡ true) ↔ ((q : Reading) × Reads W fits 0 q es)

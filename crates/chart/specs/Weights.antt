@@ -1,15 +1,7 @@
 -- The weights that a chart works from: of binarised rules, of the chosen derivations of nothing, of strict rules.
 use Rattle.std.specs.Prelude.{◌≡◌, ℕ, ◌<◌, cond, List, map}
-use Rattle.grammar.specs.Semiring.{Ops}
-use Rattle.grammar.specs.Productions.{Book}
-use Rattle.grammar.specs.Binarised.{Right, empty, unit, binary, terminal}
-use Rattle.grammar.specs.Nullable.{nullable_after, nullable, nullable_tree}
-use Rattle.grammar.specs.Chains.{Dropped, nothing, the_right, the_left}
-use Rattle.grammar.specs.Lists.{Mem}
-use Rattle.grammar.specs.Strict.{strict_rules}
-use Rattle.grammar.specs.Cells.{tree_weight}
-use Rattle.grammar.specs.Weights.{binarised_weight, strict_weight_of}
-use Rattle.grammar.specs.Binarise.{binarised}
+use Rattle.grammar.specs.{Semiring.Ops, Productions.Book, Nullable.nullable, Nullable.nullable_tree, Lists.Mem, Strict.strict_rules}
+use Rattle.grammar.specs.{Cells.tree_weight, Weights.binarised_weight, Weights.strict_weight_of, Binarise.binarised}
 use Rattle.conversion.specs.Views.{strict_rule_of}
 pub use Rattle.book.specs.Rules.{rules_book}
 use Rattle.chart.specs.declared.weighed.WeighedRule.{WeighedRule}
@@ -18,26 +10,9 @@ use Rattle.chart.specs.declared.weighed.WeighedRule.{WeighedRule}
 abbrev pub blank_weight : {V : Type 0} → Ops V → Book → ℕ → V
 blank_weight M W x = tree_weight M (binarised_weight W M) (nullable_tree (binarised W) x)
 
--- f gives each symbol that k rounds found nullable the weight of its chosen tree, and the others zero
-abbrev pub WeightsAfter : {V : Type 0} → Ops V → Book → ℕ → (ℕ → V) → Type 0
-WeightsAfter M W k f = (x : ℕ) → x < 128 → f x ≡ cond (nullable_after (binarised W) k x) (blank_weight M W x) M.zero
-
 -- f gives each nullable symbol the weight of its chosen tree, and the others zero
 abbrev pub NullableWeights : {V : Type 0} → Ops V → Book → (ℕ → V) → Type 0
 NullableWeights M W f = (x : ℕ) → x < 128 → f x ≡ cond (nullable (binarised W) x) (blank_weight M W x) M.zero
-
--- the weight of a right side without events, whose symbols weigh what f gives
-abbrev pub right_weight : {V : Type 0} → Ops V → (ℕ → V) → Right → V
-right_weight M f empty = M.one
-right_weight M f (unit y) = f y
-right_weight M f (binary y z) = M.times (f y) (f z)
-right_weight M f (terminal p) = M.zero
-
--- the weight of what a unit step drops, where symbols weigh what f gives
-abbrev pub dropped_weight : {V : Type 0} → Ops V → (ℕ → V) → Dropped → V
-dropped_weight M f nothing = M.one
-dropped_weight M f (the_right z) = f z
-dropped_weight M f (the_left y) = f y
 
 -- the list has the strict rules of a book in their order, each with its weight
 pub record Weighs {V : Type 0} (M : Ops V) (W : Book) (rs : List (WeighedRule V)) : Type 0 where

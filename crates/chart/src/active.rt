@@ -4,10 +4,8 @@ ghost use Rattle.arrayvec.specs.ArrayVec.{array_vec_len};
 ghost use Rattle.grammar.specs.Cells.{terminal_fits};
 ghost use Rattle.conversion.specs.Views.{right_side_of};
 ghost use Rattle.book.specs.Books.{closed_book, closed_fits};
-ghost use Rattle.chart.specs.Table.{cell_place, cell_at, SameOutside, Added};
-ghost use Rattle.chart.specs.Charts.{over_event, over_parts};
-ghost use Rattle.chart.specs.Pairs.{pairs_sum, PairsWithin, PairAdded};
-ghost use Rattle.chart.specs.Columns.{SameColumn};
+ghost use Rattle.chart.specs.Table.{cell_place, cell_at, SameOutside};
+ghost use Rattle.chart.specs.Inner.{SameColumn, Added, over_event, over_parts, pairs_sum, PairsWithin, PairAdded};
 
 use crate::cells::{add, peek};
 use crate::column::Column;

@@ -6,16 +6,14 @@ ghost use Rattle.grammar.specs.Nullable.{nullable, nullable_tree};
 ghost use Rattle.grammar.specs.Nodes.{Node as TreeNode, tree_nodes};
 ghost use Rattle.conversion.specs.Held.{Brings};
 ghost use Rattle.book.specs.Rules.{rules_book};
-ghost use Rattle.chart.specs.Nodes.{node_of, Wrote, SameTable};
-ghost use Rattle.chart.specs.Blanks.{blank_nodes, AllBlank};
+ghost use Rattle.chart.specs.Nodes.{node_of};
+ghost use Rattle.chart.specs.Inner.{Wrote, SameTable, blank_nodes, AllBlank};
 
 use crate::node::Node;
 use crate::node_table::NodeTable;
+use crate::nullable::HEADS;
 use book::converted::Converted;
 use conversion::nullable::Brought;
-
-// Items below this are heads.
-const HEADS: u8 = 32;
 
 // What brought a head in, if it is nullable. No other item is.
 fn brought_head(converted: &Converted, item: u8) -> Option<Brought>

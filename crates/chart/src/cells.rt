@@ -1,6 +1,7 @@
 // The cells of a chart's table.
 ghost use Rattle.std.specs.Prelude.{◌≡◌, ℕ, ◌+◌, ◌<◌, ◌≤◌, length, if◌then◌else◌, nat_eq, slice_index_or};
-ghost use Rattle.chart.specs.Table.{column_place, cell_place, Added};
+ghost use Rattle.chart.specs.Table.{column_place, cell_place};
+ghost use Rattle.chart.specs.Inner.{Added};
 
 use weighing::weighing::Weighing;
 

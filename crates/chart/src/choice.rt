@@ -6,7 +6,7 @@ ghost use Rattle.grammar.specs.Strict.{strict_rules, strict_rules_of};
 ghost use Rattle.grammar.specs.Taken.{yes_cell, cut_fits, rule_fits};
 ghost use Rattle.conversion.specs.Views.{strict_rule_of};
 ghost use Rattle.chart.specs.Events.{chart_symbols};
-ghost use Rattle.chart.specs.Choices.{chart_rules, ForHeld, FirstRule, cut_after, FirstCut, CutsInside, FirstStep, choice_number, ChoiceAt, ChoiceTaken};
+ghost use Rattle.chart.specs.Inner.{chart_rules, ForHeld, FirstRule, cut_after, FirstCut, CutsInside, FirstStep, choice_number, ChoiceAt, ChoiceTaken};
 
 use crate::cells::{cell_place, peek};
 use crate::chart::Chart;

@@ -1,10 +1,9 @@
 // How the column of an event is worked out.
 ghost use Rattle.std.specs.Prelude.{◌≡◌, ℕ, ◌+◌, ◌-◌, ◌<◌, ◌≤◌, List, [], ◌∷◌, ◌++◌, length};
 ghost use Rattle.book.specs.Books.{closed_book, closed_fits};
-ghost use Rattle.chart.specs.Table.{column_place, cell_place, cell_at, SameOutside, Cleared, Added, AddedStarts};
-ghost use Rattle.chart.specs.Charts.{over_event, over_parts, HoldsChart};
-ghost use Rattle.chart.specs.Pairs.{pairs_sum, PairsWithin};
-ghost use Rattle.chart.specs.Columns.{SameColumn};
+ghost use Rattle.chart.specs.Table.{column_place, cell_place, cell_at, SameOutside};
+ghost use Rattle.chart.specs.Charts.{HoldsChart};
+ghost use Rattle.chart.specs.Inner.{SameColumn, Added, AddedStarts, Cleared, over_event, over_parts, pairs_sum, PairsWithin};
 
 use crate::cells::{add, cell_place, column_place, product};
 use crate::column::Column;

@@ -2,7 +2,8 @@
 ghost use Rattle.std.specs.Prelude.{◌≡◌, ◌-◌, List, [], ◌∷◌, ◌++◌, length};
 ghost use Rattle.grammar.specs.Answers.{answer};
 ghost use Rattle.grammar.specs.Nodes.{Node as TreeNode};
-ghost use Rattle.chart.specs.Nodes.{node_of, nodes_of, Wrote, room, SameTable};
+ghost use Rattle.chart.specs.Nodes.{node_of, nodes_of};
+ghost use Rattle.chart.specs.Inner.{Wrote, room, SameTable};
 
 use crate::fault::ReadingFault;
 use crate::node::Node;

@@ -7,7 +7,8 @@ ghost use Rattle.grammar.specs.Cells.{chain_weight};
 ghost use Rattle.grammar.specs.Weights.{binarised_weight, strict_weight_of};
 ghost use Rattle.grammar.specs.Binarise.{binarised};
 ghost use Rattle.conversion.specs.Views.{drop_of, strict_rule_of};
-ghost use Rattle.chart.specs.Weights.{rules_book, dropped_weight, Weighs};
+ghost use Rattle.chart.specs.Weights.{rules_book, Weighs};
+ghost use Rattle.chart.specs.Inner.{dropped_weight};
 
 use crate::blanks::Blanks;
 use crate::nullable::rule_weight;

@@ -5,21 +5,18 @@ ghost use Rattle.grammar.specs.Binarised.{Tree};
 ghost use Rattle.grammar.specs.Nodes.{Node as TreeNode, tree_nodes};
 ghost use Rattle.grammar.specs.Taken.{Takes};
 ghost use Rattle.chart.specs.Events.{chart_symbols};
-ghost use Rattle.chart.specs.Nodes.{node_of, Wrote, SameTable};
-ghost use Rattle.chart.specs.Choices.{chart_rules, ForHeld, choice_number, ChoiceAt, ChoiceTaken};
-ghost use Rattle.chart.specs.Writing.{RuleOver, Stands, below_root};
+ghost use Rattle.chart.specs.Nodes.{node_of};
+ghost use Rattle.chart.specs.Inner.{chart_rules, ForHeld, choice_number, ChoiceAt, ChoiceTaken, Wrote, SameTable, RuleOver, Stands, below_root};
 
 use crate::blank_walk::{write_blank, write_blanks};
 use crate::chart::Chart;
 use crate::choice::{Choice, choose};
 use crate::node::Node;
 use crate::node_table::NodeTable;
+use crate::nullable::HEADS;
 use book::alphabet::Alphabet;
 use conversion::chain::Dropped;
 use weighing::kinds::YesNo;
-
-// Symbols below this are heads.
-const HEADS: u8 = 32;
 
 // Symbols from this on are tails; those between are the patterns' own.
 const TAILS: u8 = 64;

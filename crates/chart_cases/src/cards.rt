@@ -1,9 +1,9 @@
 // The case over card events.
 use crate::totals::totals_line;
-use anyhow::Context;
 use book::alphabet::Cards;
 use book::kinds::{CardEvent, CardPattern};
 use cases::books::loaded;
+use cases::cards::{card_event, card_pattern};
 use std::alloc::Global;
 
 // The patterns, the rules, and the traces to print totals of.
@@ -12,28 +12,6 @@ struct CardCase<'t> {
     patterns: Vec<CardPattern>,
     rules: String,
     traces: Vec<&'t str>,
-}
-
-// A pattern: its kind, its lowest and its highest argument. A function and no FromStr, since the type is another crate's.
-fn card_pattern(text: &str) -> anyhow::Result<CardPattern> {
-    let (kind, range) = text.split_once(' ').context("a pattern has no range")?;
-    let (lowest, highest) = range
-        .split_once(' ')
-        .context("a pattern has no highest argument")?;
-    Ok(CardPattern {
-        kind: kind.parse::<u8>()?,
-        lowest: lowest.parse::<u32>()?,
-        highest: highest.parse::<u32>()?,
-    })
-}
-
-// An event: its kind and its argument. A function for the same reason.
-fn card_event(text: &str) -> anyhow::Result<CardEvent> {
-    let (kind, argument) = text.split_once(':').context("an event has no argument")?;
-    Ok(CardEvent {
-        kind: kind.parse::<u8>()?,
-        argument: argument.parse::<u32>()?,
-    })
 }
 
 impl<'t> CardCase<'t> {

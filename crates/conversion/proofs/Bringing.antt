@@ -10,12 +10,13 @@ use Rattle.grammar.proofs.Lists.{mem_map}
 use Rattle.grammar.proofs.Rounds.{holds_on, in_the_end, settled}
 use Rattle.grammar.proofs.Nullable.{rounds_next, rounds_grow, rounds_small}
 use Rattle.conversion.specs.Views.{right_side_of, rule_of, binarised_of}
-use Rattle.conversion.specs.Held.{Brings, BroughtWhere, NullablesAfter, Nullables}
-use Rattle.conversion.specs.Rounds.{sooner}
+use Rattle.conversion.specs.Held.{Brings, BroughtWhere, Nullables}
+use Rattle.conversion.specs.Rounds.{sooner, NullablesAfter}
 use Rattle.conversion.specs.declared.right.BinarisedRule.{BinarisedRule}
 use Rattle.conversion.specs.declared.nullable.Brought.{Brought}
 use Rattle.conversion.specs.declared.nullable.Nullable.{Nullable}
-use Rattle.conversion.proofs.Firsts.{some_append, first_append, own_append, get_d_mem}
+use Rattle.conversion.proofs.Firsts.{some_append, first_append, own_append}
+use Rattle.grammar.proofs.BinarisedRules.{get_d_mem}
 
 -- the right side is made of symbols held after k rounds
 abbrev pub ripe : Binarised → ℕ → OwnRule → Bool

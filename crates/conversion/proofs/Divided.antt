@@ -6,7 +6,8 @@ use Rattle.grammar.specs.Lists.{each, below}
 use Rattle.grammar.proofs.Lists.{length_count_up, mem_map}
 use Rattle.grammar.specs.Binarised.{Rule, rule, binary, Binarised}
 use Rattle.grammar.specs.Productions.{Book, Sound, production, right_of, tails, tails_before, first_tail}
-use Rattle.grammar.specs.Binarise.{binarise_right, binarise_production, terminal_rule, binarised_rules, binarised}
+use Rattle.grammar.specs.Binarise.{binarise_right, binarised}
+use Rattle.grammar.proofs.Short.{binarise_production, terminal_rule, binarised_rules}
 use Rattle.grammar.proofs.Offers.{binarised_next, upto_length}
 use Rattle.grammar.proofs.Tails.{tails_next, tails_whole, tails_within}
 use Rattle.conversion.specs.declared.production.Production.{Production}
@@ -15,7 +16,7 @@ use Rattle.conversion.specs.declared.binarised.BinarisedRules.{BinarisedRules}
 use Rattle.conversion.specs.Rows.{production_of}
 use Rattle.conversion.specs.Views.{rule_of}
 use Rattle.conversion.specs.Binarised.{rows_book, grammar_of}
-use Rattle.conversion.proofs.Firsts.{get_d_mem}
+use Rattle.grammar.proofs.BinarisedRules.{get_d_mem}
 use Rattle.conversion.proofs.Each.{below_more}
 
 -- the rules held

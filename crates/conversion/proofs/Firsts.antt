@@ -1,6 +1,6 @@
 -- Tests over a list with more at its end, and the rules of a symbol there.
-use Rattle.std.proofs.Common.{◌≡◌, ℕ, zero, suc, ◌<◌, Bool, true, false, cond, ◌||◌, eqb, List, [], ◌∷◌, ◌++◌, length, get_or, refl, ap, inl, inr, arith}
-use Rattle.grammar.specs.Lists.{Mem, some_of, first_of}
+use Rattle.std.proofs.Common.{◌≡◌, ℕ, Bool, true, false, cond, ◌||◌, eqb, List, [], ◌∷◌, ◌++◌, refl, ap}
+use Rattle.grammar.specs.Lists.{some_of, first_of}
 use Rattle.grammar.specs.Binarised.{Rule, rules_in}
 
 pub some_append : {A : Type 0} (p : A → Bool) (xs ys : List A) → some_of p (xs ++ ys) ≡ (some_of p xs || some_of p ys)
@@ -22,9 +22,3 @@ own_append x (r ∷ rs) qs =
     (elim (eqb r.left x) as (λ b. cond b ((r.number, r.right) ∷ rules_in x (rs ++ qs)) (rules_in x (rs ++ qs))
     ≡ cond b ((r.number, r.right) ∷ rules_in x rs) (rules_in x rs) ++ rules_in x qs)
     [ true ↦ ap (λ l. (r.number, r.right) ∷ l) (own_append x rs qs) | false ↦ own_append x rs qs ])
-
--- what stands in a list is one of it
-pub get_d_mem : {A : Type 0} (xs : List A) (i : ℕ) (d : A) → i < length xs → Mem (get_or xs i d) xs
-get_d_mem [] i d h = absurd (omega arith)
-get_d_mem (x ∷ xs) zero d h = inl refl
-get_d_mem (x ∷ xs) (suc i) d h = inr (get_d_mem xs i d (omega arith))

@@ -14,8 +14,8 @@ use Rattle.conversion.specs.declared.right.BinarisedRule.{BinarisedRule}
 use Rattle.conversion.specs.declared.chain.Chains.{Chains}
 use Rattle.conversion.specs.declared.strict.StrictRules.{StrictRules}
 use Rattle.conversion.specs.Views.{right_side_of, rule_of, binarised_of}
-use Rattle.conversion.specs.Linked.{link, ChosenChains}
-use Rattle.conversion.specs.Found.{Holds}
+use Rattle.conversion.specs.Linked.{link, ChainsWithin}
+use Rattle.conversion.specs.Forms.{Holds}
 use Rattle.conversion.proofs.Firsts.{own_append}
 use Rattle.conversion.proofs.Each.{each_those, each_more, each_same, each_shorter}
 use Rattle.conversion.proofs.Walking.{link_leads}
@@ -174,7 +174,7 @@ own_of : (rules : List BinarisedRule) (S y : ℕ) → rules_of (binarised_of rul
 unfolding rules_of
 own_of rules S y = refl
 
-module _ (rules : List BinarisedRule) (c : Chains) (S : ℕ) (bounded : Bounded (binarised_of rules S)) (chosen : ChosenChains (binarised_of rules S) c) (N : ℕ) (few : N ≤ 128) where
+module _ (rules : List BinarisedRule) (c : Chains) (S : ℕ) (bounded : Bounded (binarised_of rules S)) (chosen : ChainsWithin (binarised_of rules S) (binarised_of rules S).symbols c) (N : ℕ) (few : N ≤ 128) where
   abbrev B : Binarised
   B = binarised_of rules S
 

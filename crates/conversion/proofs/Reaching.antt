@@ -10,13 +10,14 @@ use Rattle.grammar.proofs.Lists.{mem_map, some_gives, those_append, those_mem}
 use Rattle.grammar.proofs.Rounds.{in_the_end, settled}
 use Rattle.grammar.proofs.Chains.{within_next, within_grows, within_self, within_small}
 use Rattle.conversion.specs.Views.{step_of}
-use Rattle.conversion.specs.Linked.{link, Shortest, ChosenWhere, ChainsWithin, ChosenChains}
+use Rattle.conversion.specs.Linked.{link, Shortest, ChosenWhere, ChainsWithin}
 use Rattle.conversion.specs.Rounds.{all_steps, EndsBelow, shorter}
 use Rattle.conversion.specs.declared.chain.UnitStep.{UnitStep}
 use Rattle.conversion.specs.declared.chain.Chain.{Chain}
 use Rattle.conversion.specs.declared.chain.Chain.TheVariants.{Empty, Steps}
 use Rattle.conversion.specs.declared.chain.Chains.{Chains}
-use Rattle.conversion.proofs.Firsts.{some_append, first_append, get_d_mem}
+use Rattle.conversion.proofs.Firsts.{some_append, first_append}
+use Rattle.grammar.proofs.BinarisedRules.{get_d_mem}
 use Rattle.conversion.proofs.Stepping.{starts, own_steps}
 use Rattle.conversion.proofs.Linking.{extended}
 
@@ -183,11 +184,11 @@ module _ (B : Binarised) (bounded : Bounded B) (ends : EndsBelow B) where
   ]
 
   -- as many rounds as symbols but one, or more
-  pub chains_all : (n : ℕ) (c : Chains) → B.symbols ≤ suc n → ChainsWithin B n c → ChosenChains B c
+  pub chains_all : (n : ℕ) (c : Chains) → B.symbols ≤ suc n → ChainsWithin B n c → ChainsWithin B B.symbols c
   chains_all n c l h x y a b = subst (λ t. ChosenWhere B t x y (link c x y)) (steady y n x l) (h x y a b)
 
   -- a round that leaves the table as it was is the last
-  pub chains_rest : (j : ℕ) (c d : Chains) → B.symbols ≤ 128 → d.links ≡ c.links → ChainsWithin B j c → ChainsWithin B (suc j) d → ChosenChains B d
+  pub chains_rest : (j : ℕ) (c d : Chains) → B.symbols ≤ 128 → d.links ≡ c.links → ChainsWithin B j c → ChainsWithin B (suc j) d → ChainsWithin B B.symbols d
   chains_rest j c d l e h g = elim (cases_lt j B.symbols) [
     | inr big ↦ chains_all (suc j) d (omega arith) g
     | inl small ↦ λ x y a b. subst (λ t. ChosenWhere B t x y (link d x y)) (elim (cases_lt y B.symbols) [

@@ -12,7 +12,7 @@ use Rattle.grammar.proofs.Nullable.{nullable_kept}
 use Rattle.grammar.proofs.Chains.{chain_in_leads, chain_in_length, chain_kept, within_grows, within_length, within_next, within_self, within_small}
 use Rattle.conversion.specs.Views.{right_side_of, step_of}
 use Rattle.conversion.specs.Held.{Brings, BroughtIn, Nullables}
-use Rattle.conversion.specs.Linked.{link, Shortest, Chosen, ChosenChains}
+use Rattle.conversion.specs.Linked.{link, Shortest, Chosen, ChainsWithin}
 use Rattle.conversion.specs.Rounds.{EndsBelow, shorter}
 use Rattle.conversion.specs.declared.nullable.Brought.{Brought}
 use Rattle.conversion.specs.declared.nullable.Nullable.{Nullable}
@@ -108,7 +108,7 @@ module _ (B : Binarised) (bounded : Bounded B) where
         ap length (chain_kept B bounded y y< (suc j) B.symbols x (omega arith) h.3) ∙ (omega (arith, h.1))
 
     -- after the first step the table has a chain of fewer steps
-    pub shortest_fewer : (c : Chains) → ChosenChains B c → (x k : ℕ) (s : UnitStep) → s.to < 128 → y < 128 → Shortest B x y k s → shorter k (link c s.to y) ≡ true
+    pub shortest_fewer : (c : Chains) → ChainsWithin B B.symbols c → (x k : ℕ) (s : UnitStep) → s.to < 128 → y < 128 → Shortest B x y k s → shorter k (link c s.to y) ≡ true
     shortest_fewer c all x k s a b h = at (link c s.to y) (all s.to y a b)
       where
         at : (o : Option Chain) → Chosen B s.to y o → shorter k o ≡ true
@@ -120,7 +120,7 @@ module _ (B : Binarised) (bounded : Bounded B) where
         ])
 
 -- the chain from a symbol to itself is empty
-pub link_self : (B : Binarised) (c : Chains) → ChosenChains B c → (x : ℕ) → x < 128 → link c x x ≡ Some Empty
+pub link_self : (B : Binarised) (c : Chains) → ChainsWithin B B.symbols c → (x : ℕ) → x < 128 → link c x x ≡ Some Empty
 link_self B c h x a = at (link c x x) (h x x a a)
   where
     at : (o : Option Chain) → Chosen B x x o → o ≡ Some Empty
@@ -129,7 +129,7 @@ link_self B c h x a = at (link c x x) (h x x a a)
     at (Some (Steps k s)) p = absurd (both_ways _ p.1.2 (within_self B x p.1.0))
 
 -- a chain is in the table exactly if one leads
-pub link_leads : (B : Binarised) (c : Chains) → ChosenChains B c → (x y : ℕ) → x < 128 → y < 128 → is_some (link c x y) ≡ within B y B.symbols x
+pub link_leads : (B : Binarised) (c : Chains) → ChainsWithin B B.symbols c → (x y : ℕ) → x < 128 → y < 128 → is_some (link c x y) ≡ within B y B.symbols x
 link_leads B c h x y a b = at (link c x y) (h x y a b)
   where
     at : (o : Option Chain) → Chosen B x y o → is_some o ≡ within B y B.symbols x

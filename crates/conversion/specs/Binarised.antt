@@ -1,15 +1,12 @@
 -- The book of productions, and the grammar of binarised rules.
 use Rattle.std.specs.Prelude.{ℕ, List, map}
-use Rattle.grammar.specs.Binarised.{Binarised}
-use Rattle.grammar.specs.Productions.{Book}
-use Rattle.conversion.specs.declared.production.Production.{Production}
-use Rattle.conversion.specs.declared.binarised.BinarisedRules.{BinarisedRules}
-use Rattle.conversion.specs.Rows.{production_of}
-use Rattle.conversion.specs.Views.{binarised_of}
+use Rattle.grammar.specs.{Binarised.Binarised, Productions.Book, Productions.book}
+use Rattle.conversion.specs.declared.{production.Production.Production, binarised.BinarisedRules.BinarisedRules}
+use Rattle.conversion.specs.{Rows.production_of, Views.binarised_of}
 
 -- the book of rows and a number of patterns
 abbrev pub rows_book : List Production → ℕ → Book
-rows_book rows T = record { productions = map production_of rows; patterns = T }
+rows_book rows T = book T (map production_of rows)
 
 -- the grammar that binarised rules are
 abbrev pub grammar_of : BinarisedRules → Binarised

@@ -1,10 +1,8 @@
 -- What a table of nullable symbols says.
 use Rattle.std.specs.Prelude.{◌≡◌, ℕ, suc, Bool, true, false, Some, None, Option, slice_index_or}
-use Rattle.grammar.specs.Binarised.{Binarised}
-use Rattle.grammar.specs.Nullable.{nullable_after, nullable, first_ready}
+use Rattle.grammar.specs.{Binarised.Binarised, Nullable.nullable_after, Nullable.nullable, Nullable.first_ready}
 use Rattle.conversion.specs.Views.{right_side_of}
-use Rattle.conversion.specs.declared.nullable.Brought.{Brought}
-use Rattle.conversion.specs.declared.nullable.Nullable.{Nullable}
+use Rattle.conversion.specs.declared.{nullable.Brought.Brought, nullable.Nullable.Nullable}
 
 -- its round brought x in, by the first rule of x whose right side was made of symbols held before
 abbrev pub Brings : Binarised → ℕ → Brought → Type 0
@@ -14,10 +12,6 @@ Brings B x b = (nullable_after B b.round x ≡ false) × (nullable_after B (suc 
 abbrev pub BroughtWhere : Binarised → Bool → ℕ → Option Brought → Type 0
 BroughtWhere B h x None = h ≡ false
 BroughtWhere B h x (Some b) = (h ≡ true) × Brings B x b
-
--- the table of the symbols found nullable in k rounds
-abbrev pub NullablesAfter : Binarised → ℕ → Nullable → Type 0
-NullablesAfter B k n = (x : ℕ) → BroughtWhere B (nullable_after B k x) x (slice_index_or n.brought x None)
 
 -- where x is nullable, what brought it in; else nothing
 abbrev pub BroughtIn : Binarised → ℕ → Option Brought → Type 0

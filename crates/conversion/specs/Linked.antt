@@ -1,12 +1,9 @@
 -- What the table of chosen chains says.
 use Rattle.std.specs.Prelude.{◌≡◌, ℕ, suc, ◌<◌, Bool, true, false, [], Some, None, Option, slice_index_or}
-use Rattle.grammar.specs.Binarised.{Binarised}
-use Rattle.grammar.specs.Chains.{within, first_step}
+use Rattle.grammar.specs.{Binarised.Binarised, Chains.within, Chains.first_step}
 use Rattle.conversion.specs.Views.{step_of}
-use Rattle.conversion.specs.declared.chain.UnitStep.{UnitStep}
-use Rattle.conversion.specs.declared.chain.Chain.{Chain}
-use Rattle.conversion.specs.declared.chain.Chain.TheVariants.{Empty, Steps}
-use Rattle.conversion.specs.declared.chain.Chains.{Chains}
+use Rattle.conversion.specs.declared.{chain.UnitStep.UnitStep, chain.Chain.Chain}
+use Rattle.conversion.specs.declared.{chain.Chain.TheVariants.Empty, chain.Chain.TheVariants.Steps, chain.Chains.Chains}
 
 -- the table's chain from x to y
 abbrev pub link : Chains → ℕ → ℕ → Option Chain
@@ -29,7 +26,3 @@ ChainsWithin B n c = (x y : ℕ) → x < 128 → y < 128 → ChosenWhere B (with
 -- whether a chain leads from x to y, and the chosen one
 abbrev pub Chosen : Binarised → ℕ → ℕ → Option Chain → Type 0
 Chosen B x y o = ChosenWhere B (within B y B.symbols x) x y o
-
--- the table of the chosen chains
-abbrev pub ChosenChains : Binarised → Chains → Type 0
-ChosenChains B c = (x y : ℕ) → x < 128 → y < 128 → Chosen B x y (link c x y)

@@ -1,11 +1,9 @@
--- What a round asks of its table and of the unit steps. Only private contracts cite these words.
-use Rattle.std.specs.Prelude.{ℕ, ◌<◌, Bool, false, List, Some, None, Option, nat_lt}
-use Rattle.grammar.specs.Lists.{Mem, each}
-use Rattle.grammar.specs.Binarised.{Rule, Binarised}
-use Rattle.grammar.specs.Nullable.{nullable}
+-- Words of private contracts: no promise to a caller rests on these.
+use Rattle.std.specs.Prelude.{ℕ, ◌<◌, Bool, false, List, Some, None, Option, nat_lt, slice_index_or}
+use Rattle.grammar.specs.{Lists.Mem, Lists.each, Binarised.Rule, Binarised.Binarised, Nullable.nullable, Nullable.nullable_after}
 use Rattle.grammar.specs.Chains.{ChainStep, steps_by}
-use Rattle.conversion.specs.declared.nullable.Brought.{Brought}
-use Rattle.conversion.specs.declared.chain.Chain.{Chain}
+use Rattle.conversion.specs.Held.{BroughtWhere}
+use Rattle.conversion.specs.declared.{nullable.Brought.Brought, nullable.Nullable.Nullable, chain.Chain.Chain}
 use Rattle.conversion.specs.declared.chain.Chain.TheVariants.{Empty, Steps}
 
 -- a round before k brought it in
@@ -26,3 +24,7 @@ all_steps B = each (λ (r : Rule). steps_by (nullable B) r.left r.number r.right
 -- every unit step leads to a symbol below the bound
 abbrev pub EndsBelow : Binarised → Type 0
 EndsBelow B = (s : ChainStep) → Mem s (all_steps B) → s.to < B.symbols
+
+-- the table of the symbols found nullable in k rounds
+abbrev pub NullablesAfter : Binarised → ℕ → Nullable → Type 0
+NullablesAfter B k n = (x : ℕ) → BroughtWhere B (nullable_after B k x) x (slice_index_or n.brought x None)

@@ -3,7 +3,7 @@ ghost use Rattle.std.specs.Prelude.{◌≡◌, ℕ, suc, ◌<◌, ◌≤◌, fal
 ghost use Rattle.grammar.specs.Binarised.{Binarised};
 ghost use Rattle.conversion.specs.Binarised.{grammar_of};
 ghost use Rattle.conversion.specs.Held.{Nullables};
-ghost use Rattle.conversion.specs.Linked.{ChainsWithin, ChosenChains, link};
+ghost use Rattle.conversion.specs.Linked.{ChainsWithin, link};
 ghost use Rattle.conversion.specs.Rounds.{EndsBelow, all_steps, shorter};
 ghost use Rattle.conversion.specs.Views.{step_of};
 
@@ -95,7 +95,7 @@ impl Chains {
 pub(crate) fn chains(binarised: &BinarisedRules, nullable: &Nullable) -> Chains
     requires nullables { Nullables (grammar_of binarised.now) nullable.now }
     requires ends { EndsBelow (grammar_of binarised.now) }
-    ensures { ChosenChains (grammar_of binarised.now) result }
+    ensures { ChainsWithin (grammar_of binarised.now) (grammar_of binarised.now).symbols result }
 {
     let list = unit_steps(binarised, nullable);
     let mut out = Chains::start();

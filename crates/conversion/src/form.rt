@@ -5,10 +5,9 @@ ghost use Rattle.grammar.specs.Binarised.{OwnRule, rules_in};
 ghost use Rattle.grammar.specs.Productions.{Sound};
 ghost use Rattle.grammar.specs.Strict.{StrictFormRule, proper as stands, strict_rule, strict_rules_of, strict_rules};
 ghost use Rattle.conversion.specs.Binarised.{rows_book, grammar_of};
-ghost use Rattle.conversion.specs.Forms.{FormOf};
+ghost use Rattle.conversion.specs.Forms.{FormOf, Holds};
 ghost use Rattle.conversion.specs.Views.{right_side_of, rule_of, strict_rule_of};
-ghost use Rattle.conversion.specs.Linked.{ChosenChains};
-ghost use Rattle.conversion.specs.Found.{Holds};
+ghost use Rattle.conversion.specs.Linked.{ChainsWithin};
 
 use crate::binarise::binarise;
 use crate::binarised::BinarisedRules;
@@ -56,7 +55,7 @@ impl StrictRules {
 
     // The strict rules of a symbol.
     fn of(&mut self, symbol: u8, binarised: &BinarisedRules, chains: &Chains)
-        requires chosen { ChosenChains (grammar_of binarised.now) chains.now }
+        requires chosen { ChainsWithin (grammar_of binarised.now) (grammar_of binarised.now).symbols chains.now }
         requires symbol { symbol < 128 }
         ensures { (l : List StrictFormRule) → Holds l self.old → Holds (l ++ strict_rules_of (grammar_of binarised.now) symbol) self.new }
     {
@@ -69,7 +68,7 @@ impl StrictRules {
 
     // The strict rules, by symbol, then by the end of the chain, then by number.
     fn all(binarised: &BinarisedRules, chains: &Chains) -> StrictRules
-        requires { ChosenChains (grammar_of binarised.now) chains.now }
+        requires { ChainsWithin (grammar_of binarised.now) (grammar_of binarised.now).symbols chains.now }
         ensures { Holds (strict_rules (grammar_of binarised.now)) result }
     {
         let mut out = StrictRules {

@@ -2,8 +2,8 @@
 ghost use Rattle.std.specs.Prelude.{◌≡◌, suc, false, is_some, Some, None, slice_index_or, slice_set};
 ghost use Rattle.grammar.specs.Nullable.{ready as made_of};
 ghost use Rattle.conversion.specs.Binarised.{grammar_of};
-ghost use Rattle.conversion.specs.Held.{NullablesAfter, Nullables};
-ghost use Rattle.conversion.specs.Rounds.{sooner};
+ghost use Rattle.conversion.specs.Held.{Nullables};
+ghost use Rattle.conversion.specs.Rounds.{sooner, NullablesAfter};
 ghost use Rattle.conversion.specs.Views.{right_side_of};
 
 use crate::binarised::BinarisedRules;

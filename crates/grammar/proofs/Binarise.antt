@@ -5,7 +5,8 @@ use Rattle.grammar.specs.Lists.{Mem}
 use Rattle.grammar.specs.Binarised.{Right, empty, unit, binary, terminal, Rule, rule, Binarised, Has, Tree, null, over, fork, leaf, Derives, by_empty, by_unit, by_binary, by_terminal}
 use Rattle.grammar.specs.Productions.{Book, Numbers, head_of, right_of, first_tail, Sound}
 use Rattle.grammar.specs.Readings.{Reading, Parts, node, no_part, event, part, Reads, by_rule, Along, at_end, at_event, at_part}
-use Rattle.grammar.specs.Binarise.{binaries, binarise_right, binarise_production, binarised, forks, stand, one_event, shape, binarise, binarise_parts}
+use Rattle.grammar.specs.Binarise.{binaries, binarise_right, binarised, forks, stand, one_event, binarise, binarise_parts}
+use Rattle.grammar.proofs.Short.{binarise_production, shape}
 use Rattle.grammar.proofs.BinarisedRules.{binarised_has, terminal_has, one_item_unit, one_item_terminal, item_small, binarised_same, tail_same, head_rule, symbol_rule, right_empty, right_unit, right_terminal, right_binary}
 
 -- every rule of the list is one of these rules

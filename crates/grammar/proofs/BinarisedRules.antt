@@ -2,10 +2,10 @@
 use Rattle.std.proofs.Common.{◌≡◌, ℕ, zero, suc, ◌+◌, ◌-◌, ◌<◌, ◌≤◌, true, false, cond, eqb, ◌⊎◌, List, [], ◌∷◌, ◌++◌, map, length, get_or, sym, refl, ap, ◌∙◌, subst, inl, inr, arith}
 use Rattle.std.proofs.lemmas.Bool.{cases_lt, cases_order, lt-ltb, le-ltb, eqb-true}
 use Rattle.grammar.specs.Lists.{Mem, Distinct, each, below, count_up}
-use Rattle.grammar.specs.Binarised.{Right, empty, unit, binary, terminal, Rule, rule, Has, OwnRule, rules_in, rules_of, Bounded, Numbered}
-use Rattle.grammar.specs.Strict.{Proper}
+use Rattle.grammar.specs.Binarised.{Right, empty, unit, binary, terminal, Rule, rule, Has, OwnRule, rules_in, rules_of, Bounded}
+use Rattle.grammar.proofs.Short.{Numbered, Proper, binarise_production, terminal_rule, Rising}
 use Rattle.grammar.specs.Productions.{Production, cost_of, all_tails, Book, Numbers, production, head_of, right_of, tails, first_tail, Sound, ProperBook}
-use Rattle.grammar.specs.Binarise.{one_item, binaries, binarise_right, binarise_production, terminal_rule, binarised, Rising, Within}
+use Rattle.grammar.specs.Binarise.{one_item, binaries, binarise_right, binarised, Within}
 use Rattle.grammar.proofs.Nullable.{rules_in_mem}
 use Rattle.grammar.proofs.Tails.{tails_within, tails_upto}
 use Rattle.grammar.proofs.Lists.{mem_left, mem_right, mem_append, mem_map, map_mem, mem_each, each_mem, mem_below, count_up_mem}

@@ -115,7 +115,7 @@ pub each_cong : {A B : Type 0} (f g : A → List B) (xs : List A) → ((a : A) �
 each_cong f g [] h = refl
 each_cong f g (x ∷ xs) h = ap₂ ◌++◌ (h x (inl refl)) (each_cong f g xs (λ a m. h a (inr m)))
 
-pub each_nothing : {A B : Type 0} (xs : List A) → each {B = B} (λ a. []) xs ≡ []
+pub each_nothing : {A B : Type 0} (xs : List A) → each {A = B} (λ a. []) xs ≡ []
 each_nothing [] = refl
 each_nothing (x ∷ xs) = each_nothing xs
 

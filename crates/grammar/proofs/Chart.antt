@@ -11,8 +11,9 @@ use Rattle.grammar.specs.Taken.{yes_cell}
 use Rattle.grammar.specs.Strict.{strict_form}
 use Rattle.grammar.specs.Binarise.{binarised}
 use Rattle.grammar.specs.Weights.{binarised_weight, cell_of}
-use Rattle.grammar.specs.Grammars.{Symbol, nonterminal, letter, right_symbols, rule_production, Generates, strict_grammar}
-use Rattle.grammar.specs.Promises.{SpanEquations, CellSets, SymbolSets, CellEquations, YesChart}
+use Rattle.grammar.specs.Grammars.{Symbol, nonterminal, letter, right_symbols, Generates, strict_grammar}
+use Rattle.grammar.proofs.Short.{rule_production}
+use Rattle.grammar.specs.Promises.{CellSets, Equations, ByPlace, YesCells}
 use Rattle.grammar.proofs.Lists.{mem_map, map_mem, mem_cuts, cuts_mem}
 use Rattle.grammar.proofs.Spans.{cell_span, span_kept}
 use Rattle.grammar.proofs.StrictFound.{strict_found}
@@ -22,7 +23,7 @@ use Rattle.grammar.proofs.BinarisedRules.{binarised_bounded}
 use Rattle.grammar.proofs.Grammars.{generates_derives}
 use Rattle.grammar.proofs.StrictForm.{derived, strict_has, strictly}
 
-pub cell_equations : {V : Type 0} (M : Ops V) → Semiring M → (E : Type 0) → CellEquations M E
+pub cell_equations : {V : Type 0} (M : Ops V) → Semiring M → (E : Type 0) → (W : Book) (fits : E → ℕ → Bool) (x : ℕ) → Equations W M fits x
 cell_equations M L E W fits x = record {
   one_event = λ e. cell_one M L fits (binarised W) (binarised_weight W M) x e;
   more_events = λ e f w. cell_more M L fits (binarised W) (binarised_weight W M) x e f w;
@@ -31,7 +32,7 @@ cell_equations M L E W fits x = record {
 span_one : {E : Type 0} (ev : List E) (i : ℕ) (d : E) → i < length ev → span ev i 1 ≡ get_or ev i d ∷ []
 span_one ev i d h = ap (take 1) (drop-cons ev i d h)
 
-pub span_equations : {V : Type 0} (M : Ops V) → Semiring M → (E : Type 0) → SpanEquations M E
+pub span_equations : {V : Type 0} (M : Ops V) → Semiring M → (E : Type 0) → (W : Book) (fits : E → ℕ → Bool) (ev : List E) (x i : ℕ) → ByPlace W M fits ev x i
 span_equations M L E W fits ev x i = record {
   one_event = λ d h. ap (cell_of W M fits x) (span_one ev i d h) ∙ cell_one M L fits (binarised W) (binarised_weight W M) x (get_or ev i d);
   more_events = λ l h k. cell_span M L fits (binarised W) (binarised_weight W M) ev x i l h k;
@@ -44,7 +45,7 @@ no_events : (W : Book) {E : Type 0} (fits : E → ℕ → Bool) (x : ℕ) → ye
 unfolding cell cell_in
 no_events W fits x = refl
 
-pub yes_chart : (E : Type 0) → YesChart E
+pub yes_chart : (E : Type 0) → (W : Book) → Sound W → (fits : E → ℕ → Bool) (x : ℕ) (w : List E) → YesCells W fits x w
 yes_chart E W S fits x w = record { says_yes = by w; same = same w }
   where
     yes : (b : Bool) → cond b true true ≡ true
@@ -148,5 +149,5 @@ module _ (W : Book) (S : Sound W) {E : Type 0} (fits : E → ℕ → Bool) where
     );
   }
 
-pub symbol_sets : (E : Type 0) → SymbolSets E
+pub symbol_sets : (E : Type 0) → (W : Book) → Sound W → (fits : E → ℕ → Bool) (x : ℕ) → CellSets W fits x
 symbol_sets E W S fits x = cell_sets W S fits x

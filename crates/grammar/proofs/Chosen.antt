@@ -1,18 +1,18 @@
 -- The chosen rules of nullable symbols, and the chosen chains.
-use Rattle.std.proofs.Common.{◌≡◌, ℕ, zero, suc, ◌≤◌, Bool, true, false, cond, ◌⊎◌, List, [], ◌∷◌, ◌++◌, length, sym, refl, ap, ◌∙◌, subst, ap₂, inl, inr, true≢false, arith}
+use Rattle.std.proofs.Common.{◌≡◌, ℕ, zero, suc, ◌≤◌, Bool, true, false, cond, ◌⊎◌, List, [], ◌∷◌, ◌++◌, length, sym, refl, ap, ◌∙◌, subst, ap₂, inl, inr, true≢false, arith, ◌<◌}
 use Rattle.std.proofs.lemmas.Bool.{and_parts, cases_lt, cases_Bool, or_cases}
 use Rattle.grammar.specs.Lists.{Mem, each, first_of, some_of, Sorted}
 use Rattle.grammar.specs.Binarised.{Has, Right, empty, unit, binary, terminal, OwnRule, rules_of, Binarised, Bounded, over, fork}
 use Rattle.grammar.specs.Nullable.{BringsIn, ready, next_round, nullable_after, nullable, rule_tree, first_ready, nullable_tree_in, nullable_tree}
 use Rattle.grammar.specs.Productions.{Book, Sound}
 use Rattle.grammar.specs.Binarise.{binarised}
-use Rattle.grammar.specs.Promises.{NullableChosen, ChainChosen}
 use Rattle.grammar.specs.Chains.{IsChosen, Lower, nothing, the_right, the_left, ChainStep, unit_step, UnitChain, steps_by, steps, within, first_step, chosen_chain_in, chosen_chain, reached}
 use Rattle.grammar.proofs.Rounds.{in_the_end, holds_on}
 use Rattle.grammar.proofs.Nullable.{rule_has, has_rule, rounds_next, rounds_grow, rounds_small, nullable_kept}
 use Rattle.grammar.proofs.Lists.{sorted_append, first_from, each_mem}
 use Rattle.grammar.proofs.Chains.{chain_leads, mem_reached, chain_within, chain_kept, chain_rest, chain_fewest, chain_in_length, within_length, lead_steps}
 use Rattle.grammar.proofs.BinarisedRules.{binarised_same, Ascending, binarised_bounded, binarised_ascending}
+use Rattle.grammar.specs.Promises.{ChosenRule, TheChosenChain}
 
 first_least : (p : OwnRule → Bool) (d : OwnRule) (os : List OwnRule) → Ascending os → (o : OwnRule) → Mem o os → p o ≡ true → (first_of p d os).0 ≤ o.0
 first_least p d [] r o m t = absurd m
@@ -40,7 +40,8 @@ rounds_step : (B : Binarised) (k x : ℕ) → nullable_after B k x ≡ false →
 unfolding nullable_after
 rounds_step B k x f t = elim (or_cases (nullable_after B k x) _ t) [ inl e ↦ absurd (true≢false (sym e ∙ f)) | inr e ↦ e ]
 
-pub nullable_chosen : NullableChosen
+pub nullable_chosen : (W : Book) → Sound W → (k x : ℕ)
+    → nullable_after (binarised W) k x ≡ false → nullable_after (binarised W) (suc k) x ≡ true → ChosenRule (binarised W) k x
 nullable_chosen W S k x f t = elim (cases_lt k B.symbols) [
   | inl l ↦
       let r = first_from (λ (o : OwnRule). ready (nullable_after B k) o.1) (zero, empty) (rules_of B x) (rounds_step B k x f t) in
@@ -150,7 +151,8 @@ only_chosen B y chosen x (s ∷ c) (t ∷ d) p q = ap₂ ◌∷◌ same (p.rest 
     same = elim (p.lowest s c refl t d q.leads (sym long))
         [ inl e ↦ e | inr l ↦ elim (q.lowest t d refl s c p.leads long) [ inl e ↦ sym e | inr k ↦ absurd (lower_once s t l k) ] ]
 
-pub chain_chosen : ChainChosen
+pub chain_chosen : (W : Book) → Sound W → (x y : ℕ) (c : List ChainStep)
+    → y < (binarised W).symbols → UnitChain (binarised W) x c y → TheChosenChain (binarised W) x y
 chain_chosen W S x y c small h = record { is_chosen = law; only = λ d q. only_chosen B y (λ z. chosen_chain B z y) x d (chosen_chain B x y) q law }
   where
     B : Binarised

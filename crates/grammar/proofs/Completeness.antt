@@ -4,7 +4,8 @@ use Rattle.grammar.specs.Lists.{Mem, each, Cut, cuts}
 use Rattle.grammar.specs.Binarised.{unit, binary, terminal, Binarised, Has, OwnRule, rules_of, Bounded, Tree, over, fork, leaf, root, bare, Derives, by_empty, by_unit, by_binary, by_terminal}
 use Rattle.grammar.specs.Nullable.{nullable}
 use Rattle.grammar.specs.Chains.{Dropped, nothing, the_right, the_left, unit_step, Leads, UnitChain, chosen_chain, within, reached}
-use Rattle.grammar.specs.Plain.{run, core, ChosenChain, ChosenEmpty}
+use Rattle.grammar.specs.Plain.{run, core}
+use Rattle.grammar.proofs.Short.{ChosenEmpty, ChosenChain}
 use Rattle.grammar.specs.Taken.{chain_over}
 use Rattle.grammar.proofs.PlainTrees.{Below, PlainByTree, grown, cores, all_in}
 use Rattle.grammar.proofs.Lists.{mem_map, mem_each, mem_cuts}

@@ -5,17 +5,16 @@ use Rattle.grammar.specs.Lists.{First, Cut, cuts}
 use Rattle.grammar.specs.Productions.{Book, production, tails_before, Sound}
 use Rattle.grammar.specs.Binarised.{Right, binary, terminal, Binarised, rules_of, Bounded, Tree, null, over, fork, leaf}
 use Rattle.grammar.specs.Nullable.{nullable_after, nullable, nullable_tree_in}
-use Rattle.grammar.specs.Strict.{StrictFormRule}
+use Rattle.grammar.specs.Strict.{StrictFormRule, strict_rules}
 use Rattle.grammar.specs.Weighings.{yes_no, counts}
-use Rattle.grammar.specs.Cells.{over_events, cell}
+use Rattle.grammar.specs.Cells.{over_events, cell, feed_refusal}
 use Rattle.grammar.specs.Taken.{Takes}
 use Rattle.grammar.specs.Nodes.{Node, tree_nodes}
 use Rattle.grammar.specs.Binarise.{binarised}
 use Rattle.grammar.specs.Weights.{total_of}
 use Rattle.grammar.specs.PlainReadings.{Unread}
 use Rattle.grammar.specs.Answers.{of_nothing, of_events}
-use Rattle.grammar.specs.Examples.{book_a, book_b, book_c, book_d, book_e, at, HasNodes, strict_count, HoldsEvents, Shown}
-use Rattle.grammar.specs.Rooms.{feed_refusal}
+use Rattle.grammar.specs.Examples.{book_a, book_b, book_c, book_d, book_e, at, HasNodes, HoldsEvents, Shown}
 use Rattle.grammar.proofs.Nullable.{nullable_derives}
 use Rattle.grammar.proofs.Theorems.{reading_plain}
 use Rattle.grammar.proofs.BinarisedRules.{binarised_bounded}
@@ -46,7 +45,7 @@ module _ (W : Book) (j k : ℕ) (R : Rests W j k) where
   bd : Bounded B
   bd = binarised_bounded W R.sound
 
-  counted_strict : strict_count W ≡ length (strict_at B (nullable_after B j) k)
+  counted_strict : length (strict_rules (binarised W)) ≡ length (strict_at B (nullable_after B j) k)
   counted_strict = ap length (strict_same B bd (nullable_after B j) R.found k R.k_small R.linked)
 
   has_nodes : (w : List ℕ) (s : Tree) (ks : List Node) → Takes B eqb 0 s w → tree_nodes 0 s ≡ ks → HasNodes W w ks
@@ -155,11 +154,11 @@ e_a_takes : Takes (binarised book_e) eqb 0 (fork 0 0 (over 1 2 (null 2 6)) (fork
 unfolding nullable_after rules_of binarised production tails_before nullable_tree_in
 e_a_takes = event_taken book_e 2 2 rests_e 0 0 0 (strict 0 32 255 (terminal 0)) (inr (refl, inr (refl, inl (refl, refl)))) refl (lit< tt) refl
 
-a_strict : strict_count book_a ≡ 5
+a_strict : length (strict_rules (binarised book_a)) ≡ 5
 unfolding nullable_after rules_of binarised production tails_before
 a_strict = counted_strict book_a 1 1 rests_a
 
-e_strict : strict_count book_e ≡ 15
+e_strict : length (strict_rules (binarised book_e)) ≡ 15
 unfolding nullable_after rules_of binarised production tails_before
 e_strict = counted_strict book_e 2 2 rests_e
 

@@ -6,7 +6,8 @@ use Rattle.grammar.specs.Lists.{Mem}
 use Rattle.grammar.specs.Productions.{Production, Book, Numbers, production, right_of}
 use Rattle.grammar.specs.Binarised.{Right, empty, unit, binary, terminal, rule, Binarised, Has, Tree, null, over, fork, leaf, Derives, by_empty, by_unit, by_binary, by_terminal}
 use Rattle.grammar.specs.Readings.{Reading, Parts, node, no_part, event, part, Reads, by_rule, Along, at_end, at_event, at_part}
-use Rattle.grammar.specs.Grammars.{Symbol, nonterminal, letter, Grammar, Step, Steps, no_step, steps_on, Fit, Generates, item_symbol, written_production, book_grammar, right_symbols, rule_production, rules_grammar}
+use Rattle.grammar.specs.Grammars.{Symbol, nonterminal, letter, Grammar, Step, Steps, no_step, steps_on, Fit, Generates, item_symbol, book_grammar, right_symbols, rules_grammar}
+use Rattle.grammar.proofs.Short.{written_production, rule_production}
 use Rattle.grammar.proofs.Lists.{mem_map, map_mem}
 use Rattle.grammar.proofs.BinarisedRules.{production_mem}
 

@@ -6,12 +6,13 @@ use Rattle.grammar.specs.Productions.{Book, Sound}
 use Rattle.grammar.specs.Binarised.{Right, empty, unit, binary, terminal, Binarised, Bounded, Has}
 use Rattle.grammar.specs.Strict.{strict_form}
 use Rattle.grammar.specs.Binarise.{binarised, Within}
-use Rattle.grammar.specs.Grammars.{Symbol, Belongs, IsGrammar, item_symbol, written_production, book_grammar, right_symbols, rule_production, rules_grammar}
-use Rattle.grammar.specs.Promises.{AreGrammars}
+use Rattle.grammar.specs.Grammars.{Symbol, Belongs, IsGrammar, item_symbol, book_grammar, right_symbols, rules_grammar, Grammar}
+use Rattle.grammar.proofs.Short.{written_production, rule_production}
 use Rattle.grammar.proofs.Lists.{map_mem}
 use Rattle.grammar.proofs.BinarisedRules.{binarised_bounded, binarised_within}
 use Rattle.grammar.proofs.Grammars.{item_head, item_pattern}
 use Rattle.grammar.proofs.StrictForm.{strict_has, strict_symbols}
+use Rattle.grammar.specs.Promises.{Grammars}
 
 book_formed : (W : Book) → Sound W → IsGrammar (book_grammar W)
 book_formed W S x α m =
@@ -47,7 +48,7 @@ rules_formed T B bounded within x α m =
     side (terminal t) w s (inl e) = subst (Belongs (rules_grammar T B)) (sym e) w
     side (terminal t) w s (inr i) = absurd i
 
-pub are_grammars : AreGrammars
+pub are_grammars : (W : Book) → Sound W → Grammars W
 are_grammars W S = record {
   written = book_formed W S;
   binary = rules_formed W.patterns B (binarised_bounded W S) (binarised_within W S);

@@ -1,3 +1,4 @@
+pub mod Short
 pub mod Some
 pub mod Lists
 pub mod Rounds

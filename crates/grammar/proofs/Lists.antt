@@ -1,7 +1,7 @@
 -- Laws of the lists of specs/Lists.
 use Rattle.std.proofs.Common.{◌≡◌, ℕ, zero, suc, ◌+◌, ◌<◌, ◌≤◌, Bool, true, false, cond, ◌||◌, ◌⊎◌, List, [], ◌∷◌, ◌++◌, map, length, sym, refl, ap, ◌∙◌, subst, ap₂, inl, inr, true≢false, arith}
 use Rattle.std.proofs.lemmas.Bool.{or_left, or_right, or_cases, cases_eq}
-use Rattle.grammar.specs.Lists.{Sorted, Mem, Distinct, some_of, first_of, those, each, count_up, below, Cut, longer, cuts_from, cuts}
+use Rattle.grammar.specs.Lists.{Sorted, Mem, Distinct, some_of, first_of, those, each, count_up, below, Cut, cuts}
 
 -- membership
 
@@ -150,33 +150,37 @@ pub length_count_up : (a n : ℕ) → length (count_up a n) ≡ n
 length_count_up a zero = refl
 length_count_up a (suc n) = ap suc (length_count_up (suc a) n)
 
+pub cond_yes : (b : Bool) → cond b true false ≡ true → b ≡ true
+cond_yes true t = refl
+cond_yes false t = t
+
 -- cuts
 
-pub cuts_from_mem : {E : Type 0} (e : E) (w : List E) (c : Cut E) → Mem c (cuts_from e w)
-    → (c.0 ++ c.1 ≡ e ∷ w) × (0 < length c.0) × (0 < length c.1)
-cuts_from_mem e [] c m = elim m [ ]
-cuts_from_mem e (f ∷ w) c (inl q) = rw q (refl, omega arith, omega arith)
-cuts_from_mem e (f ∷ w) c (inr m) =
-    let r = map_mem (longer e) c (cuts_from f w) m in
-    let i = cuts_from_mem f w r.0 r.1 in
-    rw r.2 (ap (λ l. e ∷ l) i.0, omega arith, i.2)
+-- the cut with e before its left part
+abbrev pub longer : {E : Type 0} → E → Cut E → Cut E
+longer e c = (e ∷ c.0, c.1)
 
 pub cuts_mem : {E : Type 0} (w : List E) (c : Cut E) → Mem c (cuts w)
     → (c.0 ++ c.1 ≡ w) × (0 < length c.0) × (0 < length c.1)
 cuts_mem [] c m = elim m [ ]
-cuts_mem (e ∷ w) c m = cuts_from_mem e w c m
+cuts_mem (e ∷ []) c m = elim m [ ]
+cuts_mem (e ∷ f ∷ w) c (inl q) = rw q (refl, omega arith, omega arith)
+cuts_mem (e ∷ f ∷ w) c (inr m) =
+    let r = map_mem (longer e) c (cuts (f ∷ w)) m in
+    let i = cuts_mem (f ∷ w) r.0 r.1 in
+    rw r.2 (ap (λ l. e ∷ l) i.0, omega arith, i.2)
 
 pub mem_cuts : {E : Type 0} (u v : List E) → 0 < length u → 0 < length v → Mem (u, v) (cuts (u ++ v))
 mem_cuts [] v h k = absurd (omega arith)
 mem_cuts (e ∷ []) [] h k = absurd (omega arith)
 mem_cuts (e ∷ []) (f ∷ v) h k = inl refl
-mem_cuts (e ∷ f ∷ u) v h k = inr (mem_map (longer e) (f ∷ u, v) (cuts_from f (u ++ v)) (mem_cuts (f ∷ u) v (omega arith) k))
+mem_cuts (e ∷ f ∷ u) v h k = inr (mem_map (longer e) (f ∷ u, v) (cuts (f ∷ (u ++ v))) (mem_cuts (f ∷ u) v (omega arith) k))
 
-pub cut_lengths : {E : Type 0} (e : E) (w : List E) → map (λ (c : Cut E). length c.0) (cuts_from e w) ≡ count_up 1 (length w)
+pub cut_lengths : {E : Type 0} (e : E) (w : List E) → map (λ (c : Cut E). length c.0) (cuts (e ∷ w)) ≡ count_up 1 (length w)
 cut_lengths e [] = refl
 cut_lengths e (f ∷ w) = ap (λ l. 1 ∷ l)
-    (map_map (λ (c : Cut _). length c.0) (longer e) (cuts_from f w)
-    ∙ sym (map_map suc (λ (c : Cut _). length c.0) (cuts_from f w)) ∙ ap (map suc) (cut_lengths f w) ∙ suc_count_up 1 (length w))
+    (map_map (λ (c : Cut _). length c.0) (longer e) (cuts (f ∷ w))
+    ∙ sym (map_map suc (λ (c : Cut _). length c.0) (cuts (f ∷ w))) ∙ ap (map suc) (cut_lengths f w) ∙ suc_count_up 1 (length w))
 
 pub cuts_distinct : {E : Type 0} (w : List E) → Distinct (map (λ (c : Cut E). length c.0) (cuts w))
 cuts_distinct [] = tt

@@ -4,15 +4,16 @@ use Rattle.std.proofs.lemmas.Bool.{lt-ltb, le-ltb, cond-true, cond-false}
 use Rattle.grammar.specs.Binarised.{Tree, width}
 use Rattle.grammar.specs.Productions.{Book, head_of, right_of, first_tail, Sound}
 use Rattle.grammar.specs.Readings.{Reading, Parts, Reads, by_rule, Along, at_end, at_event, at_part}
-use Rattle.grammar.specs.Binarise.{forks, shape, binarise, binarise_parts}
+use Rattle.grammar.specs.Binarise.{forks, binarise, binarise_parts}
+use Rattle.grammar.proofs.Short.{shape}
 use Rattle.grammar.specs.Nodes.{events, events_in, Node, nodes, nodes_in, mark, tree_nodes}
 use Rattle.grammar.proofs.BinarisedRules.{head_small}
 use Rattle.grammar.proofs.Binarise.{two, two_shape}
 
-head_mark : (x n i k : ℕ) (l : List Node) → x < 32 → mark x n i k l ≡ record { rule = n; first = i; count = k } ∷ l
+pub head_mark : (x n i k : ℕ) (l : List Node) → x < 32 → mark x n i k l ≡ record { rule = n; first = i; count = k } ∷ l
 head_mark x n i k l h = cond-true (ltb x 32) (record { rule = n; first = i; count = k } ∷ l) l (lt-ltb x 32 h)
 
-no_mark : (x n i k : ℕ) (l : List Node) → 32 ≤ x → mark x n i k l ≡ l
+pub no_mark : (x n i k : ℕ) (l : List Node) → 32 ≤ x → mark x n i k l ≡ l
 no_mark x n i k l h = cond-false (ltb x 32) (record { rule = n; first = i; count = k } ∷ l) l (le-ltb x 32 h)
 
 -- of trees side by side

@@ -1,15 +1,16 @@
 -- What each round of the search for nullable symbols brings in.
-use Rattle.std.proofs.Common.{◌≡◌, ℕ, zero, suc, true, false, ◌↔◌, sym, refl, ap, ◌∙◌, subst, inl, inr, true≢false}
+use Rattle.std.proofs.Common.{◌≡◌, ℕ, zero, suc, true, false, ◌↔◌, sym, refl, ap, ◌∙◌, subst, inl, inr, true≢false, Bool}
 use Rattle.std.proofs.lemmas.Bool.{or_left, or_right, or_cases, and_parts, and_from}
 use Rattle.grammar.specs.Lists.{Mem}
 use Rattle.grammar.specs.Binarised.{Bounded, Right, empty, unit, binary, terminal, Binarised, Has, OwnRule, rules_of}
 use Rattle.grammar.specs.Nullable.{nullable, Comes, was_in, over_unit, over_binary, ready, next_round, nullable_after}
 use Rattle.grammar.specs.Binarise.{binarised}
-use Rattle.grammar.specs.Promises.{FoundInRounds}
 use Rattle.grammar.proofs.Rounds.{in_the_end}
 use Rattle.grammar.proofs.BinarisedRules.{binarised_bounded}
 use Rattle.grammar.proofs.Lists.{some_from, some_gives}
 use Rattle.grammar.proofs.Nullable.{rounds_next, rounds_grow, rounds_small, rule_has, has_rule}
+use Rattle.grammar.specs.Productions.{Book, Sound}
+use Rattle.grammar.specs.Promises.{Rounds}
 
 as_round : (B : Binarised) (k : ℕ) → nullable_after B (suc k) ≡ next_round B (nullable_after B k)
 unfolding nullable_after
@@ -57,7 +58,7 @@ rounds_more B k x = (to, from)
     from (over_binary n y z m e f) = ap (λ g. g x) (as_round B (suc k)) ∙ or_right (nullable_after B (suc k) x) _
         (some_from (λ (o : OwnRule). ready (nullable_after B (suc k)) o.1) (n, binary y z) (rules_of B x) (has_rule B x n (binary y z) m) (and_from (nullable_after B (suc k) y) (nullable_after B (suc k) z) e f))
 
-pub found_in_rounds : FoundInRounds
+pub found_in_rounds : (W : Book) → Sound W → (x : ℕ) → Rounds (binarised W) x
 unfolding nullable
 found_in_rounds W S x = record {
   first = rounds_first B x;

@@ -4,7 +4,8 @@ use lib.ListN.{length-map, get_or-append}
 use lib.Seq.{take-append-le}
 use Rattle.grammar.specs.Productions.{all_tails, SameRule, right_of, Production, Book, offered, Numbers, production, head_of, tails, tails_before, first_tail, Sound}
 use Rattle.grammar.specs.Lists.{Mem, each, below, count_up}
-use Rattle.grammar.specs.Binarise.{binarised, binaries, binarise_right, binarise_production, terminal_rule, binarised_rules}
+use Rattle.grammar.specs.Binarise.{binarised, binaries, binarise_right}
+use Rattle.grammar.proofs.Short.{binarise_production, terminal_rule, binarised_rules}
 use Rattle.grammar.proofs.Tails.{tails_next, tails_whole, tails_push}
 use Rattle.grammar.proofs.Lists.{sorted_append, sorted_left, mem_left, mem_append, length_count_up}
 

@@ -1,7 +1,8 @@
 -- The list of all plain trees holds each once.
 use Rattle.std.proofs.Common.{◌≡◌, ℕ, zero, suc, ◌+◌, Bool, true, false, cond, List, [], ◌∷◌, map, length, sym, refl, ap, ◌∙◌, ap₂, inl, inr, length-append}
 use Rattle.grammar.specs.Lists.{Mem, Distinct, each, Cut, cuts, below}
-use Rattle.grammar.specs.Binarised.{Right, empty, unit, binary, terminal, Binarised, OwnRule, rules_of, Bounded, Numbered, Tree, null, over, fork, leaf, root, width, Derives, by_empty, by_unit, by_binary, by_terminal}
+use Rattle.grammar.specs.Binarised.{Right, empty, unit, binary, terminal, Binarised, OwnRule, rules_of, Bounded, Tree, null, over, fork, leaf, root, width, Derives, by_empty, by_unit, by_binary, by_terminal}
+use Rattle.grammar.proofs.Short.{Numbered}
 use Rattle.grammar.specs.Chains.{chosen_chain, within, reached}
 use Rattle.grammar.specs.Plain.{core}
 use Rattle.grammar.specs.Taken.{chain_over}

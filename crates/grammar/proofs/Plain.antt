@@ -4,7 +4,8 @@ use Rattle.std.proofs.lemmas.Bool.{and_parts, and_from, both_ways}
 use Rattle.grammar.specs.Lists.{some_of}
 use Rattle.grammar.specs.Binarised.{Right, empty, unit, binary, terminal, Binarised, OwnRule, rules_of, Bounded, Tree, null, over, fork, leaf, root, bare, Derives, by_empty, by_unit, by_binary, by_terminal}
 use Rattle.grammar.specs.Nullable.{ready, nullable_after, nullable, rule_tree, first_ready, nullable_tree_in, nullable_tree}
-use Rattle.grammar.specs.Plain.{by_parts, ChosenChain, ChosenEmpty, Part, Apart, Starts, whole, on_left, on_right, Plain}
+use Rattle.grammar.specs.Plain.{by_parts, Part, Starts, whole, on_left, on_right, Plain}
+use Rattle.grammar.proofs.Short.{Apart, ChosenEmpty, ChosenChain}
 use Rattle.grammar.proofs.PlainTrees.{Below, PlainByTree}
 use Rattle.grammar.proofs.Lists.{first_from}
 use Rattle.grammar.proofs.Nullable.{rule_tree_root, nullable_kept, derives_nullable}

@@ -3,7 +3,8 @@ use Rattle.std.proofs.Common.{ℕ, zero, suc, Bool, cond, List, [], ◌∷◌, m
 use Rattle.grammar.specs.Lists.{each, cuts}
 use Rattle.grammar.specs.Binarised.{Right, empty, unit, binary, terminal, Binarised, OwnRule, rules_of, Tree, null, over, fork, leaf, bare}
 use Rattle.grammar.specs.Chains.{chosen_chain, reached}
-use Rattle.grammar.specs.Plain.{by_parts, ChosenChain, ChosenEmpty}
+use Rattle.grammar.specs.Plain.{by_parts}
+use Rattle.grammar.proofs.Short.{ChosenEmpty, ChosenChain}
 use Rattle.grammar.specs.Taken.{chain_over}
 
 -- what a plain tree with events is below its first run: each part without events is the chosen tree of its root, and each longest run

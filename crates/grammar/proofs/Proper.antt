@@ -1,9 +1,9 @@
 -- Without empty and unit rules every derivation is plain.
 use Rattle.std.proofs.Common.{◌≡◌, ℕ, Bool, false, List, [], sym, refl, ap, ◌∙◌, true≢false}
 use Rattle.grammar.specs.Binarised.{Binarised, Tree, root, bare, Derives, by_empty, by_unit, by_binary, by_terminal}
-use Rattle.grammar.specs.Strict.{Proper}
+use Rattle.grammar.proofs.Short.{Proper, ChosenChain}
 use Rattle.grammar.specs.Chains.{chosen_chain}
-use Rattle.grammar.specs.Plain.{run, core, ChosenChain}
+use Rattle.grammar.specs.Plain.{run, core}
 use Rattle.grammar.proofs.PlainTrees.{Below, PlainByTree}
 use Rattle.grammar.proofs.Chains.{chain_self}
 

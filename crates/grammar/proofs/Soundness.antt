@@ -3,7 +3,8 @@ use Rattle.std.proofs.Common.{◌≡◌, ℕ, zero, suc, ◌<◌, Bool, true, fa
 use Rattle.grammar.specs.Lists.{Mem, each, Cut, cuts}
 use Rattle.grammar.specs.Binarised.{Right, empty, unit, binary, terminal, Binarised, Has, OwnRule, rules_of, Bounded, Tree, fork, leaf, root, bare, Derives, by_binary, by_terminal}
 use Rattle.grammar.specs.Chains.{UnitChain, chosen_chain, reached}
-use Rattle.grammar.specs.Plain.{run, core, ChosenChain}
+use Rattle.grammar.specs.Plain.{run, core}
+use Rattle.grammar.proofs.Short.{ChosenChain}
 use Rattle.grammar.specs.Taken.{chain_over}
 use Rattle.grammar.proofs.PlainTrees.{Below, PlainByTree, grown, cores, all_in}
 use Rattle.grammar.proofs.Lists.{map_mem, each_mem, cuts_mem}

@@ -1,11 +1,11 @@
 -- The cuts of a span, by the length of the left part.
 use Rattle.std.proofs.Common.{◌≡◌, ℕ, suc, ◌+◌, ◌-◌, ◌<◌, ◌≤◌, Bool, List, [], ◌∷◌, ◌++◌, map, length, take, drop, sym, refl, ap, ◌∙◌, ap₂, arith, length-drop, length-take, take-take, drop-drop}
-use Rattle.grammar.specs.Lists.{those, Cut, longer, cuts_from, cuts, count_up, span}
+use Rattle.grammar.specs.Lists.{those, Cut, cuts, count_up, span}
 use Rattle.grammar.specs.Binarised.{Binarised}
 use Rattle.grammar.specs.Strict.{StrictFormRule, strict_rules_of}
 use Rattle.grammar.specs.Semiring.{Ops, Semiring, sum}
 use Rattle.grammar.specs.Cells.{strict_weight, is_binary, sides, cell}
-use Rattle.grammar.proofs.Lists.{map_map, suc_count_up, count_up_mem}
+use Rattle.grammar.proofs.Lists.{longer, map_map, suc_count_up, count_up_mem}
 use Rattle.grammar.proofs.Sums.{sum_cong, sum_map}
 use Rattle.grammar.proofs.CellEquations.{cell_more}
 use lib.Seq.{take-append-le, drop-append-le}
@@ -14,7 +14,7 @@ use Rattle.std.proofs.lemmas.List.{drop-take}
 abbrev at_place : {E : Type 0} → List E → ℕ → Cut E
 at_place w m = (take m w, drop m w)
 
-cuts_from_places : {E : Type 0} (e : E) (w : List E) → cuts_from e w ≡ map (at_place (e ∷ w)) (count_up 1 (length w))
+cuts_from_places : {E : Type 0} (e : E) (w : List E) → cuts (e ∷ w) ≡ map (at_place (e ∷ w)) (count_up 1 (length w))
 cuts_from_places e [] = refl
 cuts_from_places e (f ∷ w) = ap (λ l. (e ∷ [], f ∷ w) ∷ l)
     (ap (map (longer e)) (cuts_from_places f w)

@@ -1,17 +1,18 @@
 -- The strict rules: what they are made of, and what they derive.
-use Rattle.std.proofs.Common.{◌≡◌, ℕ, zero, ◌<◌, Bool, true, false, cond, ◌⊎◌, ◌↔◌, List, [], ◌∷◌, ◌++◌, map, length, sym, refl, ap, subst, inl, inr, true≢false, arith, length-append}
+use Rattle.std.proofs.Common.{◌≡◌, ℕ, zero, ◌<◌, Bool, true, false, ◌⊎◌, ◌↔◌, List, [], ◌∷◌, ◌++◌, map, length, sym, refl, ap, subst, inl, inr, true≢false, arith, length-append}
 use Rattle.grammar.specs.Lists.{cuts, Mem, those, below}
 use Rattle.grammar.specs.Binarised.{Right, empty, unit, binary, terminal, rule, Has, OwnRule, rules_of, Rule, Binarised, Bounded, Tree, fork, leaf, Derives, by_empty, by_unit, by_binary, by_terminal}
-use Rattle.grammar.specs.Strict.{StrictFormRule, strict_rule, strict_rules_of, strict_rules, proper, as_rule, strict_form}
+use Rattle.grammar.specs.Strict.{StrictFormRule, strict_rule, strict_rules_of, strict_rules, proper, strict_form}
+use Rattle.grammar.proofs.Short.{as_rule, rule_production}
 use Rattle.grammar.specs.Chains.{reached, chosen_chain}
 use Rattle.grammar.specs.Cells.{over_events}
 use Rattle.grammar.specs.Weighings.{yes_no}
 use Rattle.grammar.specs.Taken.{cut_fits, yes_cell, rule_fits, Takes, takes_terminal, takes_binary}
 use Rattle.grammar.specs.Productions.{Book, Sound}
 use Rattle.grammar.specs.Binarise.{binarise, binarised, Within}
-use Rattle.grammar.specs.Promises.{StrictForm, StrictLanguage}
-use Rattle.grammar.specs.Grammars.{InStrictForm, TwoNonterminals, OneTerminal, right_symbols, rule_production, strict_grammar}
-use Rattle.grammar.proofs.Lists.{mem_map, map_mem, each_mem, mem_each, those_mem, count_up_mem, mem_below, cuts_mem}
+use Rattle.grammar.specs.Promises.{StrictLanguage}
+use Rattle.grammar.specs.Grammars.{InStrictForm, TwoNonterminals, OneTerminal, right_symbols, strict_grammar}
+use Rattle.grammar.proofs.Lists.{mem_map, map_mem, each_mem, mem_each, those_mem, count_up_mem, mem_below, cuts_mem, cond_yes}
 use Rattle.grammar.proofs.Nullable.{rule_has}
 use Rattle.grammar.proofs.Chains.{chain_leads}
 use Rattle.grammar.proofs.ChainOver.{chain_over_derives}
@@ -115,11 +116,7 @@ module _ (W : Book) (S : Sound W) {E : Type 0} (fits : E → ℕ → Bool) where
       (leaf x r.number, by_terminal (has_strict B x r (terminal p) l m.0 q) (fitting r.right q m.1))
     where
       fitting : (b : Right) → b ≡ terminal p → over_events yes_no fits (yes_cell B fits) b (e ∷ []) ≡ true → fits e p ≡ true
-      fitting b q t = only (fits e p) (subst (λ b. over_events yes_no fits (yes_cell B fits) b (e ∷ []) ≡ true) q t)
-        where
-          only : (c : Bool) → cond c true false ≡ true → c ≡ true
-          only true t = refl
-          only false t = t
+      fitting b q t = cond_yes (fits e p) (subst (λ b. over_events yes_no fits (yes_cell B fits) b (e ∷ []) ≡ true) q t)
   taken_strictly l (takes_binary {x} {a} {b} {s} {t} {w} r c f q g d d') =
       let m = first_mem (rule_fits B fits w) (strict_rules_of B x) r f in
       let k = strict_rule_of B x r m.0 in
@@ -183,5 +180,5 @@ module _ (W : Book) (S : Sound W) {E : Type 0} (fits : E → ℕ → Bool) where
     );
   }
 
-pub strict_forms : (E : Type 0) → StrictForm E
+pub strict_forms : (E : Type 0) → (W : Book) → Sound W → (fits : E → ℕ → Bool) → StrictLanguage W fits
 strict_forms E W S fits = strict_language W S fits

@@ -6,7 +6,7 @@ use Rattle.grammar.specs.Binarised.{Has, OwnRule, rules_of, Binarised}
 use Rattle.grammar.specs.Chains.{ChainStep, UnitChain, reached, chosen_chain}
 use Rattle.grammar.specs.Strict.{StrictFormRule, strict_rule, strict_rules_of, strict_rules, proper, Before}
 use Rattle.grammar.specs.Productions.{Book, Sound}
-use Rattle.grammar.specs.Promises.{StrictListed, StrictList}
+use Rattle.grammar.specs.Promises.{StrictList, TheStrictList}
 use Rattle.grammar.proofs.Lists.{sorted_same, sorted_each, rising_up, rising_those, mem_map, map_mem, mem_each, those_mem, mem_those}
 use Rattle.grammar.proofs.Nullable.{has_rule}
 use Rattle.grammar.proofs.Chains.{chain_leads, mem_reached, chain_within}
@@ -73,7 +73,7 @@ before_once r q (inr a) (inr b) = ends a.1 b.1
     ends (inr c) (inl d) = let e = c.0 in omega arith
     ends (inr c) (inr d) = let e = c.1 in let f = d.1 in omega arith
 
-pub strict_listed : StrictListed
+pub strict_listed : (W : Book) → Sound W → TheStrictList (binarised W)
 strict_listed W S = record {
   is_list = this;
   only = λ rs l. sorted_same Before before_once rs (strict_rules (binarised W)) l.ascending this.ascending

@@ -4,7 +4,8 @@ use Rattle.std.proofs.lemmas.Bool.{or_cases, and_parts, and_from}
 use Rattle.grammar.specs.Lists.{Mem, Sorted, each, below}
 use Rattle.grammar.specs.Productions.{Production, Book, offered, first_tail, Sound}
 use Rattle.grammar.specs.Binarised.{Right, empty, unit, binary, terminal, Rule, Binarised, OwnRule, rules_of, Bounded}
-use Rattle.grammar.specs.Binarise.{binarise_right, binarise_production, terminal_rule, binarised, Admitted}
+use Rattle.grammar.specs.Binarise.{binarise_right, binarised, Admitted}
+use Rattle.grammar.proofs.Short.{binarise_production, terminal_rule}
 use Rattle.grammar.specs.Nullable.{ready, nullable_after, nullable}
 use Rattle.grammar.specs.Chains.{Dropped, nothing, the_right, the_left, ChainStep, Leads, UnitChain}
 use Rattle.grammar.specs.Strict.{StrictFormRule, strict_rules, Before}

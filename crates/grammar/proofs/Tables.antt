@@ -5,7 +5,7 @@ use Rattle.std.proofs.lemmas.List.{get_or-append_right}
 use Rattle.std.proofs.lemmas.Bool.{le-leb, lt-leb}
 use Rattle.grammar.specs.Nodes.{Node}
 use Rattle.grammar.specs.Answers.{limit, filled, number, refused}
-use Rattle.grammar.specs.Promises.{Tables}
+use Rattle.grammar.specs.Promises.{TableAfter}
 
 module _ (ks t : List Node) where
   abbrev most : ℕ
@@ -29,7 +29,7 @@ module _ (ks t : List Node) where
       ∙ get_or-drop (min most (length ks)) t (k - min most (length ks)) d
       ∙ ap (λ n. get_or t n d) (let e : min most (length ks) + (k - min most (length ks)) ≡ k = omega arith in e)
 
-pub tables : Tables
+pub tables : (ks t : List Node) → TableAfter ks t
 tables ks t = record {
   same_length = same_length ks t;
   written = written ks t;

@@ -9,13 +9,14 @@ use Rattle.grammar.specs.Binarised.{Right, empty, unit, binary, terminal, Binari
 use Rattle.grammar.specs.Nullable.{nullable_tree}
 use Rattle.grammar.specs.Chains.{Dropped, nothing, the_right, the_left, ChainStep, chosen_chain, reached}
 use Rattle.grammar.specs.Strict.{StrictFormRule, strict_rules_of, strict_rule, proper}
-use Rattle.grammar.specs.Taken.{chain_over, each_yes, yes_cell, rule_fits, cut_fits, Takes, takes_terminal, takes_binary}
+use Rattle.grammar.specs.Taken.{chain_over, yes_cell, rule_fits, cut_fits, Takes, takes_terminal, takes_binary}
+use Rattle.grammar.proofs.Short.{each_yes}
 use Rattle.grammar.specs.Semiring.{Semiring, sum}
 use Rattle.grammar.specs.Cells.{tree_weight, drop_weight, chain_weight, over_events, cell_in, cell}
 use Rattle.grammar.specs.Weighings.{yes_no}
 use Rattle.grammar.proofs.Weighed.{trees_sum, grown_weight}
 use Rattle.grammar.proofs.PlainTrees.{grown, all}
-use Rattle.grammar.proofs.Lists.{map_mem, each_mem}
+use Rattle.grammar.proofs.Lists.{map_mem, each_mem, cond_yes}
 use Rattle.grammar.proofs.CellEquations.{cut_short, cell_eq, all_eq, each_cong}
 
 -- yes and no have the laws
@@ -215,13 +216,9 @@ module _ (B : Binarised) where
     unfolding begins
     reading_first x s w (takes_terminal {p = p} {e = e} r f q) =
         let t = (first_mem (rule_fits B fits (e ∷ [])) (strict_rules_of B x) r f).1 in
-        let t' = one (fits e p) (subst (λ b. over_events yes_no fits (yes_cell B fits) b (e ∷ []) ≡ true) q t) in
+        let t' = cond_yes (fits e p) (subst (λ b. over_events yes_no fits (yes_cell B fits) b (e ∷ []) ≡ true) q t) in
         rule_begins x (e ∷ []) r (leaf r.end r.number) (omega arith) f
         (subst (λ b. begins (grown fits (all B fits) r.end r.number b (e ∷ [])) (leaf r.end r.number)) (sym q) (rw t' ([], refl)))
-      where
-        one : (b : Bool) → cond b true false ≡ true → b ≡ true
-        one true t = refl
-        one false t = absurd (true≢false (sym t))
     reading_first x s w (takes_binary {a = a} {b = b} {s = s'} {t = t'} r c f q g d d') =
         let m = first_mem (cut_fits B fits a b) (cuts w) c g in
         let k = cut_short w c m.0 in

@@ -1,7 +1,8 @@
 -- The theorems: what the list of all plain trees holds, and what its sum is.
 use Rattle.std.proofs.Common.{◌≡◌, ℕ, ◌<◌, Bool, true, false, cond, ◌↔◌, List, [], ◌∷◌, length, sym, refl, ap, ◌∙◌, inl, inr, true≢false, arith}
 use Rattle.grammar.specs.Lists.{Mem, Distinct}
-use Rattle.grammar.specs.Binarised.{Binarised, Bounded, Numbered, Tree, Derives}
+use Rattle.grammar.specs.Binarised.{Binarised, Bounded, Tree, Derives}
+use Rattle.grammar.proofs.Short.{Numbered}
 use Rattle.grammar.specs.Nullable.{nullable, nullable_tree}
 use Rattle.grammar.specs.Semiring.{Ops, Semiring, sum}
 use Rattle.grammar.specs.Cells.{tree_weight, cell, total}

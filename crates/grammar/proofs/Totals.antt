@@ -1,5 +1,5 @@
 -- Totals, the reading taken, and what the call for it answers.
-use Rattle.std.proofs.Common.{◌≡◌, ℕ, suc, ◌+◌, ◌<◌, ◌≤◌, min, Bool, true, false, cond, ◌||◌, ltb, leb, ◌⊎◌, List, [], ◌∷◌, map, length, sym, refl, ap, ◌∙◌, subst, inl, inr, true≢false, arith}
+use Rattle.std.proofs.Common.{◌≡◌, ℕ, suc, ◌+◌, ◌<◌, ◌≤◌, min, Bool, true, false, cond, ◌||◌, ltb, leb, ◌⊎◌, List, [], ◌∷◌, map, length, sym, refl, ap, ◌∙◌, subst, inl, inr, true≢false, arith, ◌↔◌}
 use mathlib.Core.Path.{fun_ext}
 use Rattle.grammar.specs.Lists.{cuts, Mem, Distinct}
 use Rattle.grammar.specs.Binarised.{Binarised, Bounded, Tree, Derives}
@@ -8,13 +8,13 @@ use Rattle.grammar.specs.Semiring.{Ops, Semiring, sum, product}
 use Rattle.grammar.specs.Cells.{cell, total}
 use Rattle.grammar.specs.Weighings.{Keeps, counts, costs, yes_no}
 use Rattle.grammar.specs.Taken.{cut_fits, Takes, takes_terminal, takes_binary}
-use Rattle.grammar.specs.Productions.{Book, cost_of, Sound}
+use Rattle.grammar.specs.Productions.{Book, cost_of, Sound, ProperBook}
 use Rattle.grammar.specs.Readings.{Reading, Reads}
 use Rattle.grammar.specs.Binarise.{binarise, binarised}
 use Rattle.grammar.specs.Nodes.{Node, nodes}
 use Rattle.grammar.specs.Weights.{reading_weight, binarised_weight, total_of, reading_cost}
 use Rattle.grammar.specs.PlainReadings.{PlainReading, PlainList, Unread}
-use Rattle.grammar.specs.Promises.{SumsPlain, SumsAll, NoneExact, Counted, LeastExact, Least, TakesOne, AnswersOnce, Answered, Carries, Carried}
+use Rattle.grammar.specs.Promises.{Counted, Least, Answered, Carried, PlainSum, TakesExactly, WholeSum}
 use Rattle.grammar.specs.Answers.{Taken, of_nothing, of_events, filled, Answer, answer, Answers, is_none, is_read}
 use Rattle.grammar.proofs.PlainTrees.{PlainByTree}
 use Rattle.grammar.proofs.Weighings.{cell_kept, Upto, capped_counts, capped_counts_laws, capped_counts_kept, capped_costs, capped_costs_laws, capped_costs_kept, sum_kept, total_kept}
@@ -94,10 +94,10 @@ module _ (W : Book) (S : Sound W) {E : Type 0} (fits : E → ℕ → Bool) where
           at [] (nullable_tree B x) b (rw (derives_bare B fits x (nullable_tree B x) [] b) (ap (nullable_tree B) (sym (derives_root B fits x (nullable_tree B x) [] b))))
       go (e ∷ w) {s} d = let k = all_some B bd fits x s (e ∷ w) (omega arith) d in let j = all_sound B bd fits x k.0 (e ∷ w) k.1 in at (e ∷ w) k.0 j.0 j.1
 
-pub sums_plain : {V : Type 0} (M : Ops V) → Semiring M → (E : Type 0) → SumsPlain M E
+pub sums_plain : {V : Type 0} (M : Ops V) → Semiring M → (E : Type 0) → (W : Book) → Sound W → (fits : E → ℕ → Bool) (w : List E) → PlainSum W M fits w
 sums_plain M L E W S fits w = record { listed = listed W S fits 0 (omega arith) w; is_sum = λ rs p. summed W S fits M L 0 (omega arith) w rs p }
 
-pub sums_all : {V : Type 0} (M : Ops V) → Semiring M → (E : Type 0) → SumsAll M E
+pub sums_all : {V : Type 0} (M : Ops V) → Semiring M → (E : Type 0) → (W : Book) → Sound W → ProperBook W → (fits : E → ℕ → Bool) (w : List E) → WholeSum W M fits w
 sums_all M L E W S P fits w = record {
   all_plain = plain;
   listed = (let k = listed W S fits 0 (omega arith) w in
@@ -132,7 +132,7 @@ module _ {V U : Type 0} (M : Ops V) (N : Ops U) (f : V → U) (K : Keeps M N f) 
     totals = λ w. total_kept M N f K (binarised_weight W M) (binarised W) fits 0 w ∙ ap (λ wt. total (binarised W) N wt fits 0 w) weights_kept;
   }
 
-pub carries : {V U : Type 0} (M : Ops V) (N : Ops U) (E : Type 0) → Carries M N E
+pub carries : {V U : Type 0} (M : Ops V) (N : Ops U) (E : Type 0) → (f : V → U) → Keeps M N f → (W : Book) → Sound W → (fits : E → ℕ → Bool) → Carried M N f W fits
 carries M N E f K W S fits = carried M N f K W S fits
 
 -- as many plain readings, held at the limit
@@ -154,7 +154,7 @@ counted W S {E} fits C h w rs p =
     K : Keeps H (counts C) (λ a. a.0)
     K = capped_counts_kept C h
 
-pub none_exact : (E : Type 0) (C : ℕ) → 1 ≤ C → NoneExact E C
+pub none_exact : (E : Type 0) (C : ℕ) → 1 ≤ C → (W : Book) → Sound W → (fits : E → ℕ → Bool) (w : List E) → Counted W fits C w
 none_exact E C h W S fits w = let k = listed W S fits 0 (omega arith) w in by k.0 k.1
   where
     some : (r : Reading) × Reads W fits 0 r w → (r : Reading) × PlainReading W fits 0 w r
@@ -223,14 +223,14 @@ module _ (W : Book) (S : Sound W) {E : Type 0} (fits : E → ℕ → Bool) where
       let k = binarised_back W S fits (omega arith) (reading_plain (binarised W) (binarised_bounded W S) fits 0 r.0 (e ∷ w) r.1).0 in
       (k.0, of_events k.1 (subst (λ s. Takes (binarised W) fits 0 s (e ∷ w)) (sym k.2) r.1))
 
-pub takes_one : (E : Type 0) → TakesOne E
+pub takes_one : (E : Type 0) → (W : Book) → Sound W → (fits : E → ℕ → Bool) (w : List E) → TakesExactly W fits w
 takes_one E W S fits w = record {
   one = ((λ t. (t.0, (taken_plain W S fits t.0 w t.1).reads)), takes W S fits w);
   is_plain = λ r t. taken_plain W S fits r w t;
   only = λ r q t t'. taken_one W S fits r q w t t';
 }
 
-pub answers_once : (E : Type 0) → AnswersOnce E
+pub answers_once : (E : Type 0) → (W : Book) → Sound W → (fits : E → ℕ → Bool) (w : List E) (t : List Node) → Answered W fits w t
 answers_once E W S fits w t = there (total_of W yes_no fits w) refl
   where
     one : (a b : Answer) (t' t'' : List Node) → Answers W fits w t a t' → Answers W fits w t b t'' → (a ≡ b) × (t' ≡ t'')
@@ -291,7 +291,8 @@ costed W S {E} fits C small w rs p =
     costs_capped [] = omega arith
     costs_capped (k ∷ ks) = let a = costs_capped ks in omega arith
 
-pub least_exact : (E : Type 0) (C : ℕ) → 65535 ≤ C → LeastExact E C
+pub least_exact : (E : Type 0) (C : ℕ) → 65535 ≤ C → (W : Book) → Sound W → (fits : E → ℕ → Bool) (w : List E) (m : ℕ)
+    → (total_of W (costs C) fits w ≡ m) ↔ Least W fits C w m
 least_exact E C small W S fits w m = (
   (λ e. subst (Least W fits C w) (sym t ∙ e) holds),
   (λ q. t ∙ same q),

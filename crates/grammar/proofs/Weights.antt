@@ -4,7 +4,8 @@ use Rattle.std.proofs.lemmas.Bool.{lt-ltb, le-ltb}
 use Rattle.grammar.specs.Binarised.{Tree}
 use Rattle.grammar.specs.Productions.{Book, head_of, right_of, cost_of, first_tail, Sound}
 use Rattle.grammar.specs.Readings.{Reading, Parts, Reads, by_rule, Along, at_end, at_event, at_part}
-use Rattle.grammar.specs.Binarise.{forks, shape, binarise, binarise_parts}
+use Rattle.grammar.specs.Binarise.{forks, binarise, binarise_parts}
+use Rattle.grammar.proofs.Short.{shape}
 use Rattle.grammar.specs.Semiring.{Ops, Semiring, product}
 use Rattle.grammar.specs.Cells.{tree_weight}
 use Rattle.grammar.specs.Nodes.{nodes}
@@ -12,11 +13,9 @@ use Rattle.grammar.specs.Weights.{reading_weight, binarised_weight}
 use Rattle.grammar.proofs.BinarisedRules.{head_small}
 use Rattle.grammar.proofs.Nodes.{rules, rules_in, by_of, nodes_rules}
 use Rattle.grammar.proofs.Binarise.{two, two_shape}
+use Rattle.grammar.proofs.Sums.{times_one_right}
 
 module _ {V : Type 0} (M : Ops V) (L : Semiring M) where
-  pub times_one_right : (a : V) → M.times a M.one ≡ a
-  times_one_right a = L.times_comm a M.one ∙ L.times_one a
-
   pub product_append : {A : Type 0} (f : A → V) (xs ys : List A) → product M f (xs ++ ys) ≡ M.times (product M f xs) (product M f ys)
   product_append f [] ys = sym (L.times_one _)
   product_append f (x ∷ xs) ys = ap (M.times (f x)) (product_append f xs ys) ∙ sym (L.times_assoc _ _ _)

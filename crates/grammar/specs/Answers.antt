@@ -1,12 +1,7 @@
 -- The reading that is taken, and what the call for it answers and writes.
 use Rattle.std.specs.Prelude.{◌≡◌, ℕ, min, Bool, cond, List, [], ◌++◌, length, take, drop, nat_le}
-use Rattle.grammar.specs.Productions.{Book}
-use Rattle.grammar.specs.Nullable.{nullable_tree}
-use Rattle.grammar.specs.Taken.{Takes}
-use Rattle.grammar.specs.Readings.{Reading, Reads}
-use Rattle.grammar.specs.Nodes.{Node, nodes}
-use Rattle.grammar.specs.Binarise.{binarise, binarised}
-use Rattle.grammar.specs.PlainReadings.{Unread}
+use Rattle.grammar.specs.{Productions.Book, Nullable.nullable_tree, Taken.Takes, Readings.Reading, Readings.Reads}
+use Rattle.grammar.specs.{Nodes.Node, Nodes.nodes, Binarise.binarise, Binarise.binarised, PlainReadings.Unread}
 
 -- the reading that is taken: its binarised form is the derivation taken from head 0, over no events the chosen tree of head 0
 pub data Taken (W : Book) {E : Type 0} (fits : E → ℕ → Bool) : Reading → List E → Type 0 where

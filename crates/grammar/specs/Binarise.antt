@@ -1,9 +1,8 @@
 -- The binarised form of a book, and of its readings.
-use Rattle.std.specs.Prelude.{◌≡◌, ℕ, suc, ◌+◌, ◌-◌, ◌<◌, ◌≤◌, Bool, true, false, cond, List, [], ◌∷◌, ◌++◌, map, length, nat_lt}
-use Rattle.grammar.specs.Lists.{Sorted, each, below}
+use Rattle.std.specs.Prelude.{ℕ, suc, ◌+◌, ◌-◌, ◌<◌, ◌≤◌, Bool, true, false, cond, List, [], ◌∷◌, ◌++◌, map, length, nat_lt}
+use Rattle.grammar.specs.{Lists.each, Lists.below, Strict.strict_rules}
 use Rattle.grammar.specs.Productions.{Sound, Book, head_of, right_of, first_tail, all_tails}
 use Rattle.grammar.specs.Binarised.{Right, empty, unit, binary, terminal, Rule, rule, Binarised, Tree, null, over, fork, leaf}
-use Rattle.grammar.specs.Strict.{strict_rules}
 use Rattle.grammar.specs.Readings.{Reading, Parts, node, no_part, event, part}
 
 -- the right side of a production of one item: a head gives a unit rule, a pattern a terminal rule
@@ -21,21 +20,14 @@ binarise_right x n z [] = rule x n empty ∷ []
 binarise_right x n z (a ∷ []) = rule x n (one_item a) ∷ []
 binarise_right x n z (a ∷ b ∷ ys) = binaries x n z a b ys
 
--- the binarised rules of production n
-abbrev pub binarise_production : Book → ℕ → List Rule
-binarise_production W n = binarise_right (head_of W n) n (first_tail W n) (right_of W n)
-
--- the further rule of symbol 32 + t, to pattern t; no production has the number 255
-abbrev pub terminal_rule : ℕ → Rule
-terminal_rule t = rule (32 + t) 255 (terminal t)
-
--- the binarised rules of a book: those of its productions, then one for each pattern
-abbrev pub binarised_rules : Book → List Rule
-binarised_rules W = each (binarise_production W) (below (length W.productions)) ++ map terminal_rule (below W.patterns)
-
--- the binarised form of a book: its rules, and 64 symbols more than it has tails
+-- the binarised form of a book: the rules of its productions in turn, then for each pattern t one further rule of symbol 32 + t, with the
+-- number 255, which no production has; and 64 symbols more than it has tails
 unfoldable pub binarised : Book → Binarised
-binarised W = record { rules = binarised_rules W; symbols = 64 + all_tails W.productions }
+binarised W = record {
+  rules = each (λ n. binarise_right (head_of W n) n (first_tail W n) (right_of W n)) (below (length W.productions))
+      ++ map (λ t. rule (32 + t) 255 (terminal t)) (below W.patterns);
+  symbols = 64 + all_tails W.productions;
+}
 
 -- binary rules over two trees and more, the tails numbered from z
 abbrev pub forks : ℕ → ℕ → ℕ → Tree → Tree → List Tree → Tree
@@ -50,20 +42,14 @@ stand x n z (s ∷ t ∷ ts) = forks x n z s t ts
 
 -- the parts are one event alone
 abbrev pub one_event : Parts → Bool
-one_event no_part = false
 one_event (event no_part) = true
-one_event (event (event ps)) = false
-one_event (event (part r ps)) = false
-one_event (part r ps) = false
+one_event _ = false
 
--- a production of one pattern stands over its event itself
-abbrev pub shape : ℕ → ℕ → ℕ → Parts → List Tree → Tree
-shape x n z ps ts = cond (one_event ps) (leaf x n) (stand x n z ts)
-
--- the binarised form of a reading: each production replaced by its binarised rules. Of parts for the items ys: that of each
+-- the binarised form of a reading, each production replaced by its binarised rules; and of each of its parts for the items ys
 abbrev mutual
   pub binarise : Book → Reading → Tree
-  binarise W (node n ps) = shape (head_of W n) n (first_tail W n) ps (binarise_parts W (right_of W n) ps)
+  binarise W (node n ps) = cond (one_event ps) (leaf (head_of W n) n)
+      (stand (head_of W n) n (first_tail W n) (binarise_parts W (right_of W n) ps))
 
   pub binarise_parts : Book → List ℕ → Parts → List Tree
   binarise_parts W ys no_part = []
@@ -71,10 +57,6 @@ abbrev mutual
   binarise_parts W (y ∷ ys) (event ps) = leaf y 255 ∷ binarise_parts W ys ps
   binarise_parts W [] (part r ps) = []
   binarise_parts W (y ∷ ys) (part r ps) = binarise W r ∷ binarise_parts W ys ps
-
--- of the rules of one symbol each has a lower number than those after it
-abbrev pub Rising : List Rule → Type 0
-Rising = Sorted (λ r q. q.left ≡ r.left → r.number < q.number)
 
 -- the symbols of a right side are below S, and its pattern is one of T
 abbrev pub Within : ℕ → ℕ → Right → Type 0

@@ -1,6 +1,6 @@
 -- Binarised rules, the derivation trees made of them, and what a tree derives.
-use Rattle.std.specs.Prelude.{◌≡◌, ℕ, ◌+◌, ◌<◌, Bool, true, false, cond, ◌&&◌, List, [], ◌∷◌, ◌++◌, map, ◌==◌}
-use Rattle.grammar.specs.Lists.{Mem, Distinct}
+use Rattle.std.specs.Prelude.{◌≡◌, ℕ, ◌+◌, ◌<◌, Bool, true, false, cond, ◌&&◌, List, [], ◌∷◌, ◌++◌, ◌==◌}
+use Rattle.grammar.specs.Lists.{Mem}
 
 -- the right side of a binarised rule: nothing, a symbol, two symbols, or a terminal (an event that this pattern fits)
 pub data Right : Type 0 where
@@ -45,12 +45,7 @@ rules_of B x = rules_in x B.rules
 abbrev pub Bounded : Binarised → Type 0
 Bounded B = (r : Rule) → Mem r B.rules → r.left < B.symbols
 
--- the rules of one symbol have different numbers
-abbrev pub Numbered : Binarised → Type 0
-Numbered B = (x : ℕ) → Distinct (map (λ (o : OwnRule). o.0) (rules_of B x))
-
--- a derivation tree of binarised rules: at each node a symbol and the number of its rule. An empty rule stands over nothing, a unit
--- rule over one tree, a binary rule over two, a terminal rule over one event
+-- a derivation tree of binarised rules: at each node a symbol and the number of its rule, which is empty, unit, binary or a terminal rule
 pub data Tree : Type 0 where
   null : ℕ → ℕ → Tree
   over : ℕ → ℕ → Tree → Tree

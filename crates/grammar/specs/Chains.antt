@@ -1,8 +1,7 @@
 -- Unit steps, unit chains, and the chosen chain from a symbol to a symbol.
 use Rattle.std.specs.Prelude.{◌≡◌, ℕ, zero, suc, ◌<◌, ◌≤◌, Bool, true, cond, ◌||◌, ◌⊎◌, List, [], ◌∷◌, ◌++◌, length, ◌==◌}
-use Rattle.grammar.specs.Lists.{some_of, first_of, those, each, below}
-use Rattle.grammar.specs.Binarised.{Right, empty, unit, binary, terminal, Binarised, Has, OwnRule, rules_of}
-use Rattle.grammar.specs.Nullable.{nullable}
+use Rattle.grammar.specs.{Lists.some_of, Lists.first_of, Lists.those, Lists.each, Lists.below, Nullable.nullable}
+use Rattle.grammar.specs.Binarised.{Right, unit, binary, Binarised, Has, OwnRule, rules_of}
 
 -- what a unit step drops: nothing, the nullable right symbol of a binary rule, or the left
 pub data Dropped : Type 0 where
@@ -17,7 +16,6 @@ pub record ChainStep : Type 0 where
   pub dropped : Dropped
   pub to : ℕ
 
--- the step from x by rule n, that drops d, to y
 abbrev pub unit_step : ℕ → ℕ → Dropped → ℕ → ChainStep
 unit_step x n d y = record { from = x; number = n; dropped = d; to = y }
 
@@ -34,10 +32,9 @@ UnitChain B x (s ∷ c) y = (s.from ≡ x) × Leads B s.from s.number s.dropped 
 
 -- the unit steps of one rule of x: the left symbol kept comes before the right kept
 abbrev pub steps_by : (ℕ → Bool) → ℕ → ℕ → Right → List ChainStep
-steps_by b x n empty = []
 steps_by b x n (unit y) = unit_step x n nothing y ∷ []
 steps_by b x n (binary y z) = cond (b z) (unit_step x n (the_right z) y ∷ []) [] ++ cond (b y) (unit_step x n (the_left y) z ∷ []) []
-steps_by b x n (terminal p) = []
+steps_by b x n _ = []
 
 -- the unit steps from x, in order
 unfoldable pub steps : Binarised → ℕ → List ChainStep
@@ -72,16 +69,14 @@ reached B x = those (λ y. within B y B.symbols x) (below B.symbols)
 
 -- which symbol of a binary rule a step keeps: 0 for the left (or where there is but one), 1 for the right
 abbrev pub side : Dropped → ℕ
-side nothing = 0
-side (the_right z) = 0
 side (the_left z) = 1
+side _ = 0
 
 -- of two steps from one symbol the first is the lower: by number, then the left symbol kept before the right kept
 abbrev pub Lower : ChainStep → ChainStep → Type 0
 Lower s q = (s.number < q.number) ⊎ ((s.number ≡ q.number) × (side s.dropped < side q.dropped))
 
--- c is the chain chosen from x to y, where `chosen` gives that from each symbol on the way: it leads there, it has the fewest steps, its
--- first step is the lowest that begins such a chain, and the rest is the chain chosen from there
+-- c is the chain chosen from x to y: of the fewest steps, its first step the lowest that begins such a chain, the rest what `chosen` gives
 pub record IsChosen (B : Binarised) (y : ℕ) (chosen : ℕ → List ChainStep) (x : ℕ) (c : List ChainStep) : Type 0 where
   pub leads : UnitChain B x c y
   pub fewest : (d : List ChainStep) → UnitChain B x d y → length c ≤ length d

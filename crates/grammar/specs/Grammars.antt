@@ -1,18 +1,15 @@
 -- Context-free grammars: rewriting, the language of a nonterminal, strict Chomsky form; and the grammars of a book.
 use Rattle.std.specs.Prelude.{◌≡◌, ℕ, ◌-◌, ◌<◌, Bool, true, cond, ◌⊎◌, List, [], ◌∷◌, ◌++◌, map, nat_lt}
-use Rattle.grammar.specs.Lists.{Mem}
-use Rattle.grammar.specs.Productions.{Production, Book}
+use Rattle.std.specs.List.{AllZip}
+use Rattle.grammar.specs.{Lists.Mem, Productions.Production, Productions.Book, Strict.strict_form, Binarise.binarised}
 use Rattle.grammar.specs.Binarised.{Right, empty, unit, binary, terminal, Rule, Binarised}
-use Rattle.grammar.specs.Strict.{strict_form}
-use Rattle.grammar.specs.Binarise.{binarised}
 
 -- a symbol of a grammar: a nonterminal, or a letter, which is a terminal
 pub data Symbol : Type 0 where
   nonterminal : ℕ → Symbol
   letter : ℕ → Symbol
 
--- a grammar: how many nonterminals and how many terminals it has, each numbered from 0, and its productions, each a nonterminal and the
--- symbols that may stand for it
+-- a grammar: how many nonterminals and terminals it has, each numbered from 0; its productions, from a nonterminal to symbols
 pub record Grammar : Type 0 where
   pub nonterminals : ℕ
   pub terminals : ℕ
@@ -44,10 +41,7 @@ pub data Steps (G : Grammar) : List Symbol → List Symbol → Type 0 where
 
 -- the events w fit the letters, one for one: e fits letter t if it fits pattern t
 abbrev pub Fit : {E : Type 0} → (E → ℕ → Bool) → List ℕ → List E → Type 0
-Fit fits [] [] = Unit {0}
-Fit fits [] (e ∷ w) = ⊥
-Fit fits (t ∷ ts) [] = ⊥
-Fit fits (t ∷ ts) (e ∷ w) = (fits e t ≡ true) × Fit fits ts w
+Fit fits ts w = AllZip (λ t e. fits e t ≡ true) ts w
 
 -- the events w are in the language of the nonterminal x: it is rewritten to letters that they fit
 pub record Generates (G : Grammar) {E : Type 0} (fits : E → ℕ → Bool) (x : ℕ) (w : List E) : Type 0 where
@@ -55,11 +49,9 @@ pub record Generates (G : Grammar) {E : Type 0} (fits : E → ℕ → Bool) (x :
   pub rewritten : Steps G (nonterminal x ∷ []) (map letter word)
   pub fit : Fit fits word w
 
--- two nonterminals
 abbrev pub TwoNonterminals : Grammar → List Symbol → Type 0
 TwoNonterminals G α = (y : ℕ) × ((z : ℕ) × (y < G.nonterminals) × (z < G.nonterminals) × (α ≡ nonterminal y ∷ nonterminal z ∷ []))
 
--- one terminal
 abbrev pub OneTerminal : Grammar → List Symbol → Type 0
 OneTerminal G α = (t : ℕ) × (t < G.terminals) × (α ≡ letter t ∷ [])
 
@@ -71,33 +63,22 @@ InStrictForm G = (x : ℕ) (α : List Symbol) → Mem (x, α) G.productions → 
 abbrev pub item_symbol : ℕ → Symbol
 item_symbol y = cond (nat_lt y 32) (nonterminal y) (letter (y - 32))
 
--- the production of a grammar that a book's production is
-abbrev pub written_production : Production → ℕ × List Symbol
-written_production p = (p.head, map item_symbol p.right)
-
 -- the grammar of a book as it is written: 32 heads, its patterns, its productions
 abbrev pub book_grammar : Book → Grammar
-book_grammar W = record { nonterminals = 32; terminals = W.patterns; productions = map written_production W.productions }
+book_grammar W = record { nonterminals = 32; terminals = W.patterns; productions = map (λ (p : Production). (p.head, map item_symbol p.right)) W.productions }
 
--- the right side of a rule, as symbols
 abbrev pub right_symbols : Right → List Symbol
 right_symbols empty = []
 right_symbols (unit y) = nonterminal y ∷ []
 right_symbols (binary y z) = nonterminal y ∷ nonterminal z ∷ []
 right_symbols (terminal t) = letter t ∷ []
 
--- the production of a grammar that a rule is
-abbrev pub rule_production : Rule → ℕ × List Symbol
-rule_production r = (r.left, right_symbols r.right)
-
 -- the grammar of rules with T terminals
 abbrev pub rules_grammar : ℕ → Binarised → Grammar
-rules_grammar T B = record { nonterminals = B.symbols; terminals = T; productions = map rule_production B.rules }
+rules_grammar T B = record { nonterminals = B.symbols; terminals = T; productions = map (λ (r : Rule). (r.left, right_symbols r.right)) B.rules }
 
--- the grammar of a book's binarised rules
 abbrev pub binarised_grammar : Book → Grammar
 binarised_grammar W = rules_grammar W.patterns (binarised W)
 
--- the grammar of a book's strict rules
 abbrev pub strict_grammar : Book → Grammar
 strict_grammar W = rules_grammar W.patterns (strict_form (binarised W))

@@ -17,5 +17,4 @@ pub mod Weights
 pub mod Grammars
 pub mod PlainReadings
 pub mod Answers
-pub mod Rooms
 pub mod Examples

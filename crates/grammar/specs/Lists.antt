@@ -1,5 +1,8 @@
 -- Lists: what they hold, in which order, and how they are cut.
-use Rattle.std.specs.Prelude.{◌≡◌, ℕ, zero, suc, Bool, true, false, cond, ◌&&◌, ◌||◌, ◌⊎◌, List, [], ◌∷◌, ◌++◌, map, take, drop, ◌==◌}
+use Rattle.std.specs.Prelude.{◌≡◌, ℕ, zero, suc, Bool, true, false, cond, ◌⊎◌, List, [], ◌∷◌, map, take, drop}
+-- those of a list that pass a test, the lists given for each in a row, whether one passes, and whether two lists are of the same numbers
+pub use Rattle.std.specs.List.{filter as those, flat_map as each, list_any as some_of}
+pub use Rattle.std.specs.Prelude.{bytes_eq as same_numbers}
 
 -- a is one of the list
 abbrev pub Mem : {A : Type 0} → A → List A → Type 0
@@ -16,18 +19,6 @@ abbrev pub Sorted : {A : Type 0} → (A → A → Type 0) → List A → Type 0
 Sorted {A} R [] = Unit {0}
 Sorted {A} R (a ∷ l) = ((b : A) → Mem b l → R a b) × Sorted R l
 
--- one of the list passes the test
-abbrev pub some_of : {A : Type 0} → (A → Bool) → List A → Bool
-some_of p [] = false
-some_of p (x ∷ xs) = p x || some_of p xs
-
--- the same numbers in the same order
-abbrev pub same_numbers : List ℕ → List ℕ → Bool
-same_numbers [] [] = true
-same_numbers [] (y ∷ ys) = false
-same_numbers (x ∷ xs) [] = false
-same_numbers (x ∷ xs) (y ∷ ys) = x == y && same_numbers xs ys
-
 -- the first of the list that passes the test, or d if none does
 abbrev pub first_of : {A : Type 0} → (A → Bool) → A → List A → A
 first_of p d [] = d
@@ -38,16 +29,6 @@ abbrev pub First : {A : Type 0} → (A → Bool) → List A → A → Type 0
 First p [] a = ⊥
 First p (x ∷ xs) a = ((p x ≡ true) × (a ≡ x)) ⊎ ((p x ≡ false) × First p xs a)
 
--- those that pass the test, in order
-abbrev pub those : {A : Type 0} → (A → Bool) → List A → List A
-those p [] = []
-those p (x ∷ xs) = cond (p x) (x ∷ those p xs) (those p xs)
-
--- the lists that f gives for each, one after the other
-abbrev pub each : {A B : Type 0} → (A → List B) → List A → List B
-each f [] = []
-each f (x ∷ xs) = f x ++ each f xs
-
 -- n numbers from a on
 abbrev pub count_up : ℕ → ℕ → List ℕ
 count_up a zero = []
@@ -57,23 +38,14 @@ count_up a (suc n) = a ∷ count_up (suc a) n
 abbrev pub below : ℕ → List ℕ
 below n = count_up zero n
 
--- a cut: a left part and a right part
 abbrev pub Cut : Type 0 → Type 0
 Cut E = List E × List E
-
--- the cut with e before its left part
-abbrev pub longer : {E : Type 0} → E → Cut E → Cut E
-longer e c = (e ∷ c.0, c.1)
-
--- all cuts of e followed by w into two parts that are not empty, the shortest left part first
-abbrev pub cuts_from : {E : Type 0} → E → List E → List (Cut E)
-cuts_from e [] = []
-cuts_from e (f ∷ w) = (e ∷ [], f ∷ w) ∷ map (longer e) (cuts_from f w)
 
 -- all cuts of a list into two parts that are not empty, the shortest left part first
 abbrev pub cuts : {E : Type 0} → List E → List (Cut E)
 cuts [] = []
-cuts (e ∷ w) = cuts_from e w
+cuts (e ∷ []) = []
+cuts (e ∷ f ∷ w) = (e ∷ [], f ∷ w) ∷ map (λ (c : List _ × List _). (e ∷ c.0, c.1)) (cuts (f ∷ w))
 
 -- the l events from place i on
 abbrev pub span : {E : Type 0} → List E → ℕ → ℕ → List E

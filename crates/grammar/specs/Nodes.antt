@@ -14,8 +14,7 @@ abbrev mutual
   events_in (event ps) = suc (events_in ps)
   events_in (part r ps) = events r + events_in ps
 
--- a node: the number of its production, its first event (from 0), and how many events it has. Without events its first event is the
--- number of events before it
+-- a node: the number of its production, how many events there are before it, and how many it has
 pub record Node : Type 0 where
   pub rule : ℕ
   pub first : ℕ

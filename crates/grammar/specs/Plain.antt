@@ -1,6 +1,6 @@
 -- Plain trees: every part that the strict rules leave out is the chosen one.
 use Rattle.std.specs.Prelude.{◌≡◌, ℕ, Bool, true, false, ◌⊎◌, List, [], ◌∷◌}
-use Rattle.grammar.specs.Binarised.{Binarised, Tree, null, over, fork, leaf, root, bare}
+use Rattle.grammar.specs.Binarised.{Binarised, Tree, over, fork, root, bare}
 use Rattle.grammar.specs.Nullable.{nullable_tree}
 use Rattle.grammar.specs.Chains.{ChainStep, unit_step, nothing, the_right, the_left, chosen_chain}
 
@@ -12,48 +12,32 @@ by_parts false false l r n = n
 
 -- the longest run of unit steps from the root of a tree with events, between symbols that have events
 abbrev pub run : Tree → List ChainStep
-run (null x n) = []
 run (over x n s) = unit_step x n nothing (root s) ∷ run s
 run (fork x n s t) = by_parts (bare s) (bare t)
     (unit_step x n (the_right (root t)) (root s) ∷ run s)
     (unit_step x n (the_left (root s)) (root t) ∷ run t)
     []
-run (leaf x n) = []
+run _ = []
 
 -- the part where that run ends
 abbrev pub core : Tree → Tree
-core (null x n) = null x n
 core (over x n s) = core s
 core (fork x n s t) = by_parts (bare s) (bare t) (core s) (core t) (fork x n s t)
-core (leaf x n) = leaf x n
-
--- the run from the root is the chosen chain between its ends
-abbrev pub ChosenChain : Binarised → Tree → Type 0
-ChosenChain B s = run s ≡ chosen_chain B (root s) (root (core s))
-
--- the tree is the chosen tree without events of its root
-abbrev pub ChosenEmpty : Binarised → Tree → Type 0
-ChosenEmpty B s = s ≡ nullable_tree B (root s)
+core s = s
 
 -- t is a part of s
 abbrev pub Part : Tree → Tree → Type 0
-Part t (null x n) = t ≡ null x n
 Part t (over x n s) = (t ≡ over x n s) ⊎ Part t s
 Part t (fork x n s r) = (t ≡ fork x n s r) ⊎ (Part t s ⊎ Part t r)
-Part t (leaf x n) = t ≡ leaf x n
-
--- both parts of a binary rule have events: no unit step leads to either
-abbrev pub Apart : Tree → Tree → Type 0
-Apart s t = (bare s ≡ false) × (bare t ≡ false)
+Part t s = t ≡ s
 
 -- a longest run of unit steps begins at t: t is the whole, or hangs under a binary rule with events in both parts
 pub data Starts (t s : Tree) : Type 0 where
   whole : t ≡ s → Starts t s
-  on_left : (x n : ℕ) (r : Tree) → Part (fork x n t r) s → Apart t r → Starts t s
-  on_right : (x n : ℕ) (r : Tree) → Part (fork x n r t) s → Apart r t → Starts t s
+  on_left : (x n : ℕ) (r : Tree) → Part (fork x n t r) s → (bare t ≡ false) × (bare r ≡ false) → Starts t s
+  on_right : (x n : ℕ) (r : Tree) → Part (fork x n r t) s → (bare r ≡ false) × (bare t ≡ false) → Starts t s
 
--- a plain tree: each part without events is the chosen tree of its root, and each longest run of unit steps between symbols that
--- have events is the chosen chain between its ends
+-- a plain tree: each part without events is its root's chosen tree, and each longest run of unit steps the chosen chain between its ends
 pub record Plain (B : Binarised) (s : Tree) : Type 0 where
-  pub null_parts : (t : Tree) → Part t s → bare t ≡ true → ChosenEmpty B t
-  pub runs : (t : Tree) → Starts t s → bare t ≡ false → ChosenChain B t
+  pub null_parts : (t : Tree) → Part t s → bare t ≡ true → t ≡ nullable_tree B (root t)
+  pub runs : (t : Tree) → Starts t s → bare t ≡ false → run t ≡ chosen_chain B (root t) (root (core t))

@@ -1,9 +1,6 @@
 -- Plain readings, and lists of readings.
 use Rattle.std.specs.Prelude.{ℕ, Bool, ◌↔◌, List}
-use Rattle.grammar.specs.Lists.{Mem, Distinct}
-use Rattle.grammar.specs.Productions.{Book}
-use Rattle.grammar.specs.Plain.{Plain}
-use Rattle.grammar.specs.Readings.{Reading, Reads}
+use Rattle.grammar.specs.{Lists.Mem, Lists.Distinct, Productions.Book, Plain.Plain, Readings.Reading, Readings.Reads}
 use Rattle.grammar.specs.Binarise.{binarise, binarised}
 
 -- a plain reading of w from x: its binarised form is plain

@@ -8,13 +8,15 @@ pub record Production : Type 0 where
   pub right : List ℕ
   pub cost : ℕ
 
+abbrev pub written : ℕ → List ℕ → ℕ → Production
+written h right c = record { head = h; right = right; cost = c }
+
 -- the number of tails of a right side (the new symbols that cut it in two again and again): two fewer than its items, or none
 abbrev pub tails : List ℕ → ℕ
 tails [] = zero
 tails (a ∷ []) = zero
 tails (a ∷ b ∷ ys) = length ys
 
--- the number of tails of all the productions
 abbrev pub all_tails : List Production → ℕ
 all_tails [] = zero
 all_tails (p ∷ ps) = tails p.right + all_tails ps
@@ -24,9 +26,12 @@ pub record Book : Type 0 where
   pub productions : List Production
   pub patterns : ℕ
 
--- the book with one more production at the end
+-- the book of these productions over T patterns
+abbrev pub book : ℕ → List Production → Book
+book T ps = record { productions = ps; patterns = T }
+
 abbrev pub offered : Book → Production → Book
-offered W p = record { productions = W.productions ++ (p ∷ []); patterns = W.patterns }
+offered W p = book W.patterns (W.productions ++ (p ∷ []))
 
 -- n is the number of a production
 abbrev pub Numbers : Book → ℕ → Type 0
@@ -34,17 +39,14 @@ Numbers W n = n < length W.productions
 
 -- production n. What stands for it where n is no production's number does not matter
 unfoldable pub production : Book → ℕ → Production
-production W n = slice_index_or W.productions n (record { head = zero; right = []; cost = zero })
+production W n = slice_index_or W.productions n (written zero [] zero)
 
--- its head
 abbrev pub head_of : Book → ℕ → ℕ
 head_of W n = (production W n).head
 
--- its right side
 abbrev pub right_of : Book → ℕ → List ℕ
 right_of W n = (production W n).right
 
--- its cost
 abbrev pub cost_of : Book → ℕ → ℕ
 cost_of W n = (production W n).cost
 
@@ -56,7 +58,6 @@ tails_before W n = all_tails (take n W.productions)
 abbrev pub first_tail : Book → ℕ → ℕ
 first_tail W n = 64 + tails_before W n
 
--- the two have the same head and the same right side
 pub record SameRule (p q : Production) : Type 0 where
   pub same_head : p.head ≡ q.head
   pub same_right : p.right ≡ q.right

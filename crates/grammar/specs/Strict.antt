@@ -1,8 +1,7 @@
 -- Strict rules: binary and terminal rules alone, unit chains and parts without events worked in.
 use Rattle.std.specs.Prelude.{◌≡◌, ℕ, ◌<◌, Bool, true, false, ◌⊎◌, List, map}
-use Rattle.grammar.specs.Lists.{those, each, below}
-use Rattle.grammar.specs.Binarised.{Right, empty, unit, binary, terminal, Rule, rule, Binarised, Has, OwnRule, rules_of}
-use Rattle.grammar.specs.Chains.{reached}
+use Rattle.grammar.specs.{Lists.those, Lists.each, Lists.below, Chains.reached}
+use Rattle.grammar.specs.Binarised.{Right, empty, unit, rule, Binarised, OwnRule, rules_of}
 
 -- a strict rule: its symbol, the symbol that the chosen chain leads to, the number and right side of a binary or terminal rule of that
 pub record StrictFormRule : Type 0 where
@@ -15,12 +14,7 @@ pub record StrictFormRule : Type 0 where
 abbrev pub proper : Right → Bool
 proper empty = false
 proper (unit y) = false
-proper (binary y z) = true
-proper (terminal p) = true
-
--- no rule is empty or a unit rule
-abbrev pub Proper : Binarised → Type 0
-Proper B = (x n : ℕ) (b : Right) → Has B x n b → proper b ≡ true
+proper _ = true
 
 -- the strict rule of x that a rule of y gives
 abbrev pub strict_rule : ℕ → ℕ → OwnRule → StrictFormRule
@@ -30,7 +24,6 @@ strict_rule x y o = record { symbol = x; end = y; number = o.0; right = o.1 }
 unfoldable pub strict_rules_of : Binarised → ℕ → List StrictFormRule
 strict_rules_of B x = each (λ y. map (strict_rule x y) (those (λ (o : OwnRule). proper o.1) (rules_of B y))) (reached B x)
 
--- all strict rules, by symbol
 unfoldable pub strict_rules : Binarised → List StrictFormRule
 strict_rules B = each (strict_rules_of B) (below B.symbols)
 
@@ -38,10 +31,6 @@ strict_rules B = each (strict_rules_of B) (below B.symbols)
 abbrev pub Before : StrictFormRule → StrictFormRule → Type 0
 Before r q = (r.symbol < q.symbol) ⊎ ((r.symbol ≡ q.symbol) × ((r.end < q.end) ⊎ ((r.end ≡ q.end) × (r.number < q.number))))
 
--- a strict rule as a rule from its symbol to its right side: chain and what was dropped there are no part of it
-abbrev pub as_rule : StrictFormRule → Rule
-as_rule r = rule r.symbol r.number r.right
-
--- the strict rules, as rules
+-- the strict rules as rules, each from its symbol to its right side: chain and what was dropped there are no part of it
 unfoldable pub strict_form : Binarised → Binarised
-strict_form B = record { rules = map as_rule (strict_rules B); symbols = B.symbols }
+strict_form B = record { rules = map (λ (r : StrictFormRule). rule r.symbol r.number r.right) (strict_rules B); symbols = B.symbols }

@@ -1,12 +1,9 @@
 -- The derivation that is taken: the first strict rule that fits, then the shortest left part.
 use Rattle.std.specs.Prelude.{◌≡◌, ℕ, Bool, true, ◌&&◌, List, [], ◌∷◌}
-use Rattle.grammar.specs.Lists.{First, Cut, cuts}
+use Rattle.grammar.specs.{Lists.First, Lists.Cut, Lists.cuts, Nullable.nullable_tree, Strict.StrictFormRule, Strict.strict_rules_of}
 use Rattle.grammar.specs.Binarised.{binary, terminal, Binarised, Tree, over, fork, leaf}
-use Rattle.grammar.specs.Nullable.{nullable_tree}
 use Rattle.grammar.specs.Chains.{ChainStep, Dropped, nothing, the_right, the_left, chosen_chain}
-use Rattle.grammar.specs.Strict.{StrictFormRule, strict_rules_of}
-use Rattle.grammar.specs.Weighings.{yes_no}
-use Rattle.grammar.specs.Cells.{over_events, cell}
+use Rattle.grammar.specs.{Weighings.yes_no, Cells.over_events, Cells.cell}
 
 -- a unit step over a tree, with the chosen tree of what it drops
 abbrev pub step_over : Binarised → ℕ → ℕ → Dropped → Tree → Tree
@@ -14,18 +11,13 @@ step_over B x n nothing t = over x n t
 step_over B x n (the_right z) t = fork x n t (nullable_tree B z)
 step_over B x n (the_left y) t = fork x n (nullable_tree B y) t
 
--- a unit chain over a tree
 abbrev pub chain_over : Binarised → List ChainStep → Tree → Tree
 chain_over B [] t = t
 chain_over B (s ∷ c) t = step_over B s.from s.number s.dropped (chain_over B c t)
 
--- each rule weighs yes
-abbrev pub each_yes : ℕ → ℕ → Bool
-each_yes x n = true
-
--- the yes/no cell of x over w
+-- the yes/no cell of x over w, where each rule weighs yes
 abbrev pub yes_cell : {E : Type 0} → Binarised → (E → ℕ → Bool) → ℕ → List E → Bool
-yes_cell B fits x w = cell B yes_no each_yes fits x w
+yes_cell B fits x w = cell B yes_no (λ y n. true) fits x w
 
 -- a strict rule fits w: its terminal fits the one event, or a cut has a derivation on each side
 abbrev pub rule_fits : {E : Type 0} → Binarised → (E → ℕ → Bool) → List E → StrictFormRule → Bool

@@ -1,12 +1,7 @@
 -- The weights of a book's rules, strict rules and readings, and the cells and totals of its chart.
 use Rattle.std.specs.Prelude.{ℕ, zero, ◌+◌, Bool, cond, List, [], ◌∷◌, nat_lt}
-use Rattle.grammar.specs.Productions.{Book, cost_of}
-use Rattle.grammar.specs.Semiring.{Ops, product}
-use Rattle.grammar.specs.Strict.{StrictFormRule}
-use Rattle.grammar.specs.Cells.{strict_weight, cell, total}
-use Rattle.grammar.specs.Readings.{Reading}
-use Rattle.grammar.specs.Nodes.{Node, nodes}
-use Rattle.grammar.specs.Binarise.{binarised}
+use Rattle.grammar.specs.{Productions.Book, Productions.cost_of, Semiring.Ops, Semiring.product, Strict.StrictFormRule}
+use Rattle.grammar.specs.{Cells.strict_weight, Cells.cell, Cells.total, Readings.Reading, Nodes.Node, Nodes.nodes, Binarise.binarised}
 
 -- the weight of a reading: the product, over its nodes, of the weights of their productions' costs
 abbrev pub reading_weight : Book → {V : Type 0} (M : Ops V) → Reading → V

@@ -2,7 +2,7 @@
 use Rattle.std.proofs.Common.{◌≡◌, ℕ, ◌+◌, ◌-◌, ◌<◌, ◌≤◌, Bool, List, [], ◌∷◌, ◌++◌, length, get_or, take, Ok, Err, Result, IsErr, sym, refl, ap, ap₂, ◌∙◌, subst, inl, inr, append_assoc, append-nil, true≢false, arith}
 use Rattle.std.proofs.lemmas.Bool.Decides.{nat_tests}
 use Rattle.std.proofs.lemmas.List.{take_all, take_more}
-use Rattle.grammar.specs.Rooms.{column_place, feed_refusal}
+use Rattle.grammar.specs.Cells.{column_place, feed_refusal}
 use Rattle.grammar.specs.Semiring.{Ops}
 use Rattle.grammar.specs.Binarise.{binarised}
 use Rattle.book.specs.declared.alphabet.Alphabet.{Ghosts}

@@ -4,7 +4,7 @@ use Rattle.std.specs.Prelude.{OnOk, decimal, codes}
 use Rattle.std.proofs.lemmas.Result.{on_ok_weaker}
 use Rattle.std.specs.Fmt.{digits}
 use Rattle.std.proofs.lemmas.Bool.{both_ways, cases_Bool, cond-true, cond-false, lt-ltb, le-ltb, le-leb, leb-true}
-use Rattle.grammar.specs.Rooms.{column_place}
+use Rattle.grammar.specs.Cells.{column_place}
 use Rattle.grammar.specs.Binarise.{binarised}
 use Rattle.book.specs.declared.alphabet.Alphabet.{Ghosts}
 use Rattle.book.specs.declared.books.ClosedBook.{ClosedBook}

@@ -1,6 +1,6 @@
 -- What is answered of a trace.
 use Rattle.std.specs.Prelude.{◌≡◌, ℕ, ◌+◌, ◌-◌, ◌<◌, ◌≤◌, ◌⊎◌, Bool, List, ◌∷◌, ◌++◌, length, take, Ok, Err, Result, vec_len, cond, codes, decimal}
-use Rattle.grammar.specs.Rooms.{column_place}
+use Rattle.grammar.specs.Cells.{column_place}
 use Rattle.grammar.specs.Semiring.{Ops}
 use Rattle.book.specs.declared.alphabet.Alphabet.{Ghosts}
 use Rattle.book.specs.declared.books.ClosedBook.{ClosedBook}

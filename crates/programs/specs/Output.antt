@@ -3,7 +3,7 @@ use Rattle.std.specs.Prelude.{◌≡◌, ℕ, ◌+◌, Bool, false, cond, ◌&&�
 use Rattle.grammar.specs.Lists.{Mem, each, first_of, same_numbers, count_up}
 use Rattle.grammar.specs.Productions.{Production, Book}
 use Rattle.grammar.specs.Binarise.{binarised}
-use Rattle.grammar.specs.Rooms.{column_place}
+use Rattle.grammar.specs.Cells.{column_place}
 use Rattle.grammar.specs.Weighings.{yes_no, counts, costs}
 use Rattle.grammar.specs.Weights.{total_of}
 use Rattle.text.specs.Words.{Piece, piece, lines, ends_line, some_byte, AllAre}

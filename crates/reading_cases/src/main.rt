@@ -31,11 +31,10 @@ use std::fs;
 
 // The cases of these lines.
 fn stored<'t>(heap: Global, lines: &'t [&'t str]) -> anyhow::Result<Vec<Case<'t>>> {
-    let mut list = Vec::new(heap);
-    for block in blocks(heap, lines)? {
-        list.push(Case::of(heap, block)?)?;
-    }
-    Ok(list)
+    blocks(heap, lines)?
+        .into_iter()
+        .map(|block| Case::of(heap, block))
+        .try_collect(heap)
 }
 
 // Runs the stored cases.

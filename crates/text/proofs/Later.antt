@@ -2,7 +2,8 @@
 use Rattle.std.proofs.Common.{◌≡◌, ℕ, suc, ◌+◌, Bool, true, false, cond, List, [], ◌∷◌, ◌++◌, map, Some, None, Option, refl, ap, ◌∙◌, arith}
 use Rattle.grammar.specs.Lists.{those}
 use Rattle.text.specs.Kinds.{kind}
-use Rattle.text.specs.Outcomes.{Outcome, nothing, rule, fault, written, head_of, item_of, cost_of, is_arrow, is_blank, by, misplaced, no_more, cost_part, item_part, right_part, arrow_part, line}
+use Rattle.text.specs.Outcomes.{Outcome, nothing, rule, fault, written, head_of, item_of, cost_of, is_arrow, is_blank, misplaced, no_more, cost_part, item_part, right_part, arrow_part, line}
+use Rattle.text.proofs.Short.{by}
 use Rattle.text.specs.Words.{Piece, piece, longer, pieces, parts, some_byte, words}
 
 -- k bytes later

@@ -1,3 +1,4 @@
+pub mod Short
 pub mod Spelled
 pub mod Wording
 pub mod Nine

@@ -7,9 +7,10 @@ use Rattle.std.proofs.lemmas.Bool.Decides.{nat_tests}
 use Rattle.grammar.specs.Lists.{Mem, each}
 use Rattle.grammar.specs.Productions.{Production}
 use Rattle.grammar.proofs.Lists.{map_mem, mem_append}
-use Rattle.text.specs.Kinds.{Kind, arrow, blank, head, pattern, cost, unknown, arrow_text, blank_text, lettered, kind}
+use Rattle.text.specs.Kinds.{Kind, arrow, blank, head, pattern, cost, unknown, lettered, kind}
 use Rattle.text.specs.Outcomes.{kinds, item_kind, right_kinds, Writable, front_kinds, word_text, spaced, line_text, Says}
-use Rattle.text.specs.Numbers.{is_digit, all_digits, is_numeral, decimal_after, decimal}
+use Rattle.text.specs.Numbers.{is_digit, is_numeral, decimal}
+use Rattle.text.proofs.Short.{decimal_after, all_digits, arrow_text, blank_text}
 use Rattle.text.specs.Words.{piece, ends_line, parts, words, AllAre}
 use Rattle.text.proofs.Spelled.{kind_arrow, kind_blank}
 use Rattle.text.proofs.Wording.{words_split, words_word, words_none, all_places}

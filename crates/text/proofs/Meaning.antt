@@ -7,7 +7,8 @@ use Rattle.grammar.specs.Lists.{Mem}
 use Rattle.grammar.specs.Productions.{Production}
 use Rattle.grammar.proofs.Lists.{mem_append}
 use Rattle.text.specs.Kinds.{Kind, arrow, blank, head, pattern, cost, unknown, kind}
-use Rattle.text.specs.Outcomes.{rule, written, head_of, item_of, cost_of, is_arrow, is_blank, by, misplaced, no_more, cost_part, item_part, right_part, arrow_part, line, kinds, item_kind, right_kinds, Writable, front_kinds, Says, Begins, Means}
+use Rattle.text.specs.Outcomes.{word_refused, too_short, rule, written, head_of, item_of, cost_of, is_arrow, is_blank, misplaced, no_more, cost_part, item_part, right_part, arrow_part, line, kinds, item_kind, right_kinds, Writable, front_kinds, Says, Begins, Means}
+use Rattle.text.proofs.Short.{by}
 use Rattle.text.specs.Words.{Piece}
 
 -- Kinds told apart
@@ -158,7 +159,7 @@ first_piece (v ∷ vs) w = v
 module _ (end : ℕ) where
   -- a word is refused
   refused_word : (before : List Piece) (w : Piece) (ws : List Piece) → Begins (kinds before) → (Begins (kinds before ++ (kind w.bytes ∷ [])) → ⊥) → Means end (before ++ (w ∷ ws)) (misplaced w)
-  refused_word before w ws b n = inl (record { before = before; word = w; after = ws; are = refl; begins = b; no_longer = n; number = refl; place = refl })
+  refused_word before w ws b n = word_refused before w ws refl b n
 
   -- a production from the limits of its parts
   can_write : (h : ℕ) (is : List ℕ) (c : ℕ) → h ≤ 31 → ((i : ℕ) → Mem i is → i < 64) → c ≤ 65535 → Writable (written h is c)
@@ -242,16 +243,13 @@ module _ (end : ℕ) where
 
     -- behind the arrow
     right_means : (before ws : List Piece) → kinds before ≡ head h ∷ (arrow ∷ []) → Means end (before ++ ws) (right_part end h ws)
-    right_means before [] e = inr (record {
-      some = omega (arith, ap length (ap kinds (append-nil before) ∙ e), length-map (before ++ []) (λ (v : Piece). kind v.bytes));
-      begins = (written h [] 0, (blank ∷ [], (can_write h [] 0 low (λ i m. absurd m) (omega arith), inr (ap (λ z. z ++ (blank ∷ [])) (ap kinds (append-nil before) ∙ e), refl))));
-      not_sound = λ p s.
-          let t = says_tail (kinds (before ++ [])) p s in
-          let q = sym (ap kinds (append-nil before) ∙ e) ∙ t.2 in
-          no_right p.right t.0 (rest_same arrow arrow [] (right_kinds p.right ++ t.0) (rest_same (head h) (head p.head) (arrow ∷ []) (arrow ∷ (right_kinds p.right ++ t.0)) q));
-      number = refl;
-      place = refl;
-    })
+    right_means before [] e = too_short
+        (omega (arith, ap length (ap kinds (append-nil before) ∙ e), length-map (before ++ []) (λ (v : Piece). kind v.bytes)))
+        (written h [] 0, (blank ∷ [], (can_write h [] 0 low (λ i m. absurd m) (omega arith), inr (ap (λ z. z ++ (blank ∷ [])) (ap kinds (append-nil before) ∙ e), refl))))
+        (λ p s.
+        let t = says_tail (kinds (before ++ [])) p s in
+        let q = sym (ap kinds (append-nil before) ∙ e) ∙ t.2 in
+        no_right p.right t.0 (rest_same arrow arrow [] (right_kinds p.right ++ t.0) (rest_same (head h) (head p.head) (arrow ∷ []) (arrow ∷ (right_kinds p.right ++ t.0)) q)))
       where
         no_right : (is : List ℕ) (t : List Kind) → [] ≡ right_kinds is ++ t → ⊥
         no_right [] t e = not_empty blank t (sym e)
@@ -284,13 +282,10 @@ module _ (end : ℕ) where
 
     -- behind the head
     arrow_means : (v : Piece) (ws : List Piece) → kind v.bytes ≡ head h → Means end (v ∷ ws) (arrow_part end h ws)
-    arrow_means v [] e = inr (record {
-      some = omega arith;
-      begins = (written h [] 0, (arrow ∷ (blank ∷ []), (can_write h [] 0 low (λ i m. absurd m) (omega arith), inr (ap (λ z. z ∷ (arrow ∷ (blank ∷ []))) e, refl))));
-      not_sound = λ p s. let t = says_tail (kind v.bytes ∷ []) p s in not_empty arrow (right_kinds p.right ++ t.0) (sym (rest_same (kind v.bytes) (head p.head) [] (arrow ∷ (right_kinds p.right ++ t.0)) t.2));
-      number = refl;
-      place = refl;
-    })
+    arrow_means v [] e = too_short
+        (omega arith)
+        (written h [] 0, (arrow ∷ (blank ∷ []), (can_write h [] 0 low (λ i m. absurd m) (omega arith), inr (ap (λ z. z ∷ (arrow ∷ (blank ∷ []))) e, refl))))
+        (λ p s. let t = says_tail (kind v.bytes ∷ []) p s in not_empty arrow (right_kinds p.right ++ t.0) (sym (rest_same (kind v.bytes) (head p.head) [] (arrow ∷ (right_kinds p.right ++ t.0)) t.2)))
     arrow_means v (w ∷ ws) e = at (is_arrow (kind w.bytes)) refl
       where
         no_arrow : is_arrow (kind w.bytes) ≡ false → Begins (kinds (v ∷ []) ++ (kind w.bytes ∷ [])) → ⊥

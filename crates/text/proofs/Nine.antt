@@ -3,7 +3,8 @@ use Rattle.std.proofs.Common.{◌≡◌, ℕ, ◌<◌, ◌≤◌, List, [], ◌�
 use Rattle.std.proofs.lemmas.List.{take_all, take-take, take-append-le, length-take-le}
 use Rattle.std.proofs.lemmas.Bool.{cases_lt}
 use Rattle.text.specs.Kinds.{kind}
-use Rattle.text.specs.Outcomes.{rule, written, misplaced, no_more, by, item_of, cost_of, cost_part, item_part, in_nine}
+use Rattle.text.specs.Outcomes.{rule, written, misplaced, no_more, item_of, cost_of, cost_part, item_part, in_nine}
+use Rattle.text.proofs.Short.{by}
 use Rattle.text.specs.Words.{Piece}
 
 push_nine : (is : List ℕ) (i : ℕ) → take 9 (take 9 is ++ (i ∷ [])) ≡ take 9 (is ++ (i ∷ []))

@@ -4,7 +4,8 @@ use Rattle.std.proofs.lemmas.Bool.{cond-true, le-leb}
 use Rattle.grammar.specs.Lists.{Mem}
 use Rattle.grammar.specs.Productions.{Production}
 use Rattle.text.specs.Kinds.{Kind, arrow, blank, head, cost, kind}
-use Rattle.text.specs.Outcomes.{rule, written, head_of, item_of, cost_of, is_arrow, is_blank, by, misplaced, no_more, cost_part, item_part, right_part, arrow_part, line, kinds, item_kind, right_kinds, Says}
+use Rattle.text.specs.Outcomes.{rule, written, head_of, item_of, cost_of, is_arrow, is_blank, misplaced, no_more, cost_part, item_part, right_part, arrow_part, line, kinds, item_kind, right_kinds, Says}
+use Rattle.text.proofs.Short.{by}
 use Rattle.text.specs.Words.{Piece}
 use Rattle.text.proofs.Meaning.{item_named, item_neither, first_same, rest_same, not_empty}
 

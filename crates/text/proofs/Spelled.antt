@@ -5,10 +5,11 @@ use Rattle.std.proofs.lemmas.List.{take_rest}
 use Rattle.std.proofs.lemmas.Slice.{first_rest}
 use Rattle.std.proofs.lemmas.Bool.{and_parts, both_ways, cases_Bool, cases_eq, ne_eqb, cond-true, cond-false}
 use Rattle.grammar.specs.Lists.{same_numbers}
-use Rattle.text.specs.Kinds.{Kind, arrow, blank, head, pattern, cost, unknown, arrow_text, blank_text, lettered as by_letter, spelled as by_spelling, kind, word_of, kind_of, Spelled, OfKind, Sound}
+use Rattle.text.specs.Kinds.{Kind, arrow, blank, head, pattern, cost, unknown, lettered as by_letter, spelled as by_spelling, kind, word_of, kind_of, Spelled, OfKind, Sound}
 use Rattle.text.specs.declared.token.Token.{Token}
 use Rattle.text.specs.declared.token.Token.TheVariants.{Arrow, Blank, Head, Pattern, Cost, Unknown}
-use Rattle.text.specs.Numbers.{all_digits, is_numeral, decimal}
+use Rattle.text.specs.Numbers.{is_numeral, decimal}
+use Rattle.text.proofs.Short.{all_digits, arrow_text, blank_text}
 
 -- a letter before a number
 abbrev pub Lettered : ℕ → List ℕ → Type 0

@@ -5,7 +5,7 @@ use Rattle.grammar.specs.Lists.{Mem}
 use Rattle.grammar.proofs.Lists.{mem_right, those_mem}
 use Rattle.text.specs.Kinds.{Kind, arrow, blank, head, pattern, cost, unknown, kind, Spelled}
 use Rattle.text.specs.Numbers.{is_numeral, decimal}
-use Rattle.text.specs.Outcomes.{fault, refusal_of, line, Means, OfDigits}
+use Rattle.text.specs.Outcomes.{Refused, word_refused, too_short, fault, refusal_of, line, Means, OfDigits}
 use Rattle.text.specs.Words.{Piece, pieces, parts, some_byte, words, Cut}
 use Rattle.text.specs.Words.Cut.{last, next}
 use Rattle.text.proofs.Cutting.{cut_is}
@@ -41,13 +41,13 @@ refusal_range unknown = (omega arith, omega arith)
 
 -- a line that is refused
 pub line_within : (end : ℕ) (ws : List Piece) (n at : ℕ) → ((w : Piece) → Mem w ws → w.place ≤ end) → line end ws ≡ fault n at → (20 ≤ n) × (n ≤ 23) × (at ≤ end)
-line_within end ws n at inside e = elim (subst (Means end ws) e (line_means end ws)) [
-  | inl r ↦
-      let k = refusal_range (kind r.word.bytes) in
-      let m : Mem r.word ws = subst (Mem r.word) (sym r.are) (mem_right r.word r.before (r.word ∷ r.after) (inl refl)) in
-      (omega (arith, r.number, k.0), omega (arith, r.number, k.1), omega (arith, r.place, inside r.word m))
-  | inr t ↦ (omega (arith, t.number), omega (arith, t.number), omega (arith, t.place))
-]
+line_within end ws n at inside e = refused_within n at (subst (Means end ws) e (line_means end ws))
+  where
+    refused_within : (n at : ℕ) → Refused end ws n at → (20 ≤ n) × (n ≤ 23) × (at ≤ end)
+    refused_within n at (word_refused before w after are b c) =
+        let k = refusal_range (kind w.bytes) in
+        (k.0, omega (arith, k.1), inside w (subst (Mem w) (sym are) (mem_right w before (w ∷ after) (inl refl))))
+    refused_within n at (too_short s b c) = (omega arith, omega arith, omega arith)
 
 -- Numbers of any length
 

@@ -9,14 +9,12 @@ line_fault_number (OverLimit at) = 21
 line_fault_number (OutOfPlace at) = 22
 line_fault_number (TooShort at) = 23
 
--- its byte place in the text
 abbrev pub line_fault_place : LineFault → ℕ
 line_fault_place (Unknown at) = at
 line_fault_place (OverLimit at) = at
 line_fault_place (OutOfPlace at) = at
 line_fault_place (TooShort at) = at
 
--- its cause in plain words
 abbrev pub line_fault_cause : LineFault → List ℕ
 line_fault_cause (Unknown at) = codes "an unknown word"
 line_fault_cause (OverLimit at) = codes "a number over its limit"

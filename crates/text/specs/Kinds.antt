@@ -1,5 +1,5 @@
 -- What a word is.
-use Rattle.std.specs.Prelude.{◌≡◌, ℕ, true, cond, ◌⊎◌, List, [], ◌∷◌, drop, ◌==◌}
+use Rattle.std.specs.Prelude.{◌≡◌, ℕ, true, cond, ◌⊎◌, List, [], ◌∷◌, drop, codes, ◌==◌}
 use Rattle.grammar.specs.Lists.{same_numbers}
 use Rattle.text.specs.Numbers.{is_numeral, decimal}
 use Rattle.text.specs.declared.token.Token.{Token}
@@ -14,14 +14,6 @@ pub data Kind : Type 0 where
   cost : ℕ → Kind
   unknown : Kind
 
--- ->
-abbrev pub arrow_text : List ℕ
-arrow_text = 45 ∷ (62 ∷ [])
-
--- blank
-abbrev pub blank_text : List ℕ
-blank_text = 98 ∷ (108 ∷ (97 ∷ (110 ∷ (107 ∷ []))))
-
 -- what a number after a letter is: H is 72, P is 80 and # is 35
 abbrev pub lettered : ℕ → ℕ → Kind
 lettered a n = cond (a == 72) (head n) (cond (a == 80) (pattern n) (cond (a == 35) (cost n) unknown))
@@ -33,12 +25,12 @@ spelled (a ∷ ds) = cond (is_numeral ds) (lettered a (decimal ds)) unknown
 
 -- what a word is
 unfoldable pub kind : List ℕ → Kind
-kind w = cond (same_numbers w arrow_text) arrow (cond (same_numbers w blank_text) blank (spelled w))
+kind w = cond (same_numbers w (codes "->")) arrow (cond (same_numbers w (codes "blank")) blank (spelled w))
 
 -- how a word of that kind is spelled; nothing is spelled as unknown
 abbrev pub Spelled : List ℕ → Kind → Type 0
-Spelled w arrow = w ≡ arrow_text
-Spelled w blank = w ≡ blank_text
+Spelled w arrow = w ≡ codes "->"
+Spelled w blank = w ≡ codes "blank"
 Spelled w (head n) = (d : List ℕ) × (is_numeral d ≡ true) × (decimal d ≡ n) × (w ≡ 72 ∷ d)
 Spelled w (pattern n) = (d : List ℕ) × (is_numeral d ≡ true) × (decimal d ≡ n) × (w ≡ 80 ∷ d)
 Spelled w (cost n) = (d : List ℕ) × (is_numeral d ≡ true) × (decimal d ≡ n) × (w ≡ 35 ∷ d)
@@ -49,7 +41,6 @@ pub record OfKind (w : List ℕ) : Type 0 where
   pub is_kind : (k : Kind) → Spelled w k → kind w ≡ k
   pub known : (kind w ≡ unknown) ⊎ Spelled w (kind w)
 
--- the word of a token
 abbrev pub word_of : Token → List ℕ
 word_of (Arrow w at) = w.now
 word_of (Blank w at) = w.now
@@ -58,7 +49,6 @@ word_of (Pattern w at) = w.now
 word_of (Cost w at) = w.now
 word_of (Unknown w at) = w.now
 
--- the place of a token's word
 abbrev pub place_of : Token → ℕ
 place_of (Arrow w at) = at
 place_of (Blank w at) = at

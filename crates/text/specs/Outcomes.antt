@@ -1,24 +1,18 @@
 -- What the words of a line give.
-use Rattle.std.specs.Prelude.{◌≡◌, ℕ, ◌+◌, ◌-◌, ◌<◌, ◌≤◌, Bool, true, false, cond, ◌⊎◌, List, [], ◌∷◌, ◌++◌, map, length, take, Some, None, Ok, Err, decimal, Option, Result, nat_le, nat_lt}
-use Rattle.grammar.specs.Lists.{Mem, each}
-use Rattle.grammar.specs.Productions.{Production}
-use Rattle.text.specs.Faults.{line_fault_number, line_fault_place}
-use Rattle.text.specs.Kinds.{Kind, arrow, blank, head, pattern, cost, unknown, arrow_text, blank_text, kind, word_of, place_of}
-use Rattle.text.specs.Numbers.{is_numeral, decimal as decimal_of}
+use Rattle.std.specs.Prelude.{◌≡◌, ℕ, ◌+◌, ◌-◌, ◌<◌, ◌≤◌, Bool, true, false, cond, ◌⊎◌, List, [], ◌∷◌, ◌++◌, map, length, take, Some, None, Ok, Err, codes, decimal, Option, Result, nat_le, nat_lt}
+use Rattle.std.specs.Option.{option_map_or}
+use Rattle.grammar.specs.{Lists.Mem, Lists.each, Productions.Production}
+pub use Rattle.grammar.specs.Productions.{written}
+use Rattle.text.specs.{Faults.line_fault_number, Faults.line_fault_place, Numbers.is_numeral, Numbers.decimal as decimal_of}
+use Rattle.text.specs.Kinds.{Kind, arrow, blank, head, pattern, cost, unknown, kind, word_of, place_of}
 use Rattle.text.specs.Words.{Piece, piece}
-use Rattle.text.specs.declared.fault.LineFault.{LineFault}
-use Rattle.text.specs.declared.rule_line.RuleLine.{RuleLine}
-use Rattle.text.specs.declared.token.Token.{Token}
+use Rattle.text.specs.declared.{fault.LineFault.LineFault, rule_line.RuleLine.RuleLine, token.Token.Token}
 
 -- what a line gives: nothing, a rule, or a refusal with its number and its byte place
 pub data Outcome : Type 0 where
   nothing : Outcome
   rule : Production → Outcome
   fault : ℕ → ℕ → Outcome
-
--- a production of a head, a right side and a cost
-abbrev pub written : ℕ → List ℕ → ℕ → Production
-written h right c = record { head = h; right = right; cost = c }
 
 -- the number of the refusal of a word that may not stand where it does: unknown, over its limit, or else out of place
 abbrev pub refusal_of : Kind → ℕ
@@ -28,7 +22,6 @@ refusal_of (cost n) = cond (nat_lt 65535 n) 21 22
 refusal_of unknown = 20
 refusal_of _ = 22
 
--- a head within its limit
 abbrev pub head_of : Kind → Option ℕ
 head_of (head n) = cond (nat_le n 31) (Some n) None
 head_of _ = None
@@ -39,25 +32,17 @@ item_of (head n) = cond (nat_le n 31) (Some n) None
 item_of (pattern n) = cond (nat_le n 31) (Some (32 + n)) None
 item_of _ = None
 
--- a cost within its limit
 abbrev pub cost_of : Kind → Option ℕ
 cost_of (cost n) = cond (nat_le n 65535) (Some n) None
 cost_of _ = None
 
--- an arrow
 abbrev pub is_arrow : Kind → Bool
 is_arrow arrow = true
 is_arrow _ = false
 
--- blank
 abbrev pub is_blank : Kind → Bool
 is_blank blank = true
 is_blank _ = false
-
--- one thing of what is there, another of nothing
-abbrev pub by : {A : Type 0} → Option ℕ → A → (ℕ → A) → A
-by None x f = x
-by (Some n) x f = f n
 
 -- the refusal of a word where it stands
 abbrev pub misplaced : Piece → Outcome
@@ -71,17 +56,17 @@ no_more o (w ∷ ws) = misplaced w
 -- behind the right side: at most a cost
 abbrev pub cost_part : ℕ → List ℕ → List Piece → Outcome
 cost_part h is [] = rule (written h is 0)
-cost_part h is (w ∷ ws) = by (cost_of (kind w.bytes)) (misplaced w) (λ c. no_more (rule (written h is c)) ws)
+cost_part h is (w ∷ ws) = option_map_or (λ c. no_more (rule (written h is c)) ws) (cost_of (kind w.bytes)) (misplaced w)
 
 -- behind some items: further items, then at most a cost
 unfoldable pub item_part : ℕ → List ℕ → List Piece → Outcome
 item_part h is [] = cost_part h is []
-item_part h is (w ∷ ws) = by (item_of (kind w.bytes)) (cost_part h is (w ∷ ws)) (λ i. item_part h (is ++ (i ∷ [])) ws)
+item_part h is (w ∷ ws) = option_map_or (λ i. item_part h (is ++ (i ∷ [])) ws) (item_of (kind w.bytes)) (cost_part h is (w ∷ ws))
 
 -- behind the arrow, in a line that ends at a place: blank or an item
 abbrev pub right_part : ℕ → ℕ → List Piece → Outcome
 right_part end h [] = fault 23 end
-right_part end h (w ∷ ws) = cond (is_blank (kind w.bytes)) (cost_part h [] ws) (by (item_of (kind w.bytes)) (misplaced w) (λ i. item_part h (i ∷ []) ws))
+right_part end h (w ∷ ws) = cond (is_blank (kind w.bytes)) (cost_part h [] ws) (option_map_or (λ i. item_part h (i ∷ []) ws) (item_of (kind w.bytes)) (misplaced w))
 
 -- behind the head: the arrow
 abbrev pub arrow_part : ℕ → ℕ → List Piece → Outcome
@@ -91,11 +76,8 @@ arrow_part end h (w ∷ ws) = cond (is_arrow (kind w.bytes)) (right_part end h w
 -- what the words of a line that ends at a place give: a head, the arrow, the right side, at most a cost
 abbrev pub line : ℕ → List Piece → Outcome
 line end [] = nothing
-line end (w ∷ ws) = by (head_of (kind w.bytes)) (misplaced w) (λ h. arrow_part end h ws)
+line end (w ∷ ws) = option_map_or (λ h. arrow_part end h ws) (head_of (kind w.bytes)) (misplaced w)
 
--- Law
-
--- the kinds of words
 abbrev pub kinds : List Piece → List Kind
 kinds ws = map (λ (w : Piece). kind w.bytes) ws
 
@@ -103,7 +85,6 @@ kinds ws = map (λ (w : Piece). kind w.bytes) ws
 abbrev pub item_kind : ℕ → Kind
 item_kind i = cond (nat_lt i 32) (head i) (pattern (i - 32))
 
--- the words of a right side
 abbrev pub right_kinds : List ℕ → List Kind
 right_kinds [] = blank ∷ []
 right_kinds (i ∷ is) = map item_kind (i ∷ is)
@@ -126,30 +107,17 @@ Says ks p = Writable p × ((ks ≡ front_kinds p ++ (cost p.cost ∷ [])) ⊎ ((
 abbrev pub Begins : List Kind → Type 0
 Begins ks = (p : Production) × ((more : List Kind) × Says (ks ++ more) p)
 
--- a word is refused: a sound line can begin with the words before it, and with it no longer
-pub record WordRefused (ws : List Piece) (n at : ℕ) : Type 0 where
-  pub before : List Piece
-  pub word : Piece
-  pub after : List Piece
-  pub are : ws ≡ before ++ (word ∷ after)
-  pub begins : Begins (kinds before)
-  pub no_longer : Begins (kinds before ++ (kind word.bytes ∷ [])) → ⊥
-  pub number : n ≡ refusal_of (kind word.bytes)
-  pub place : at ≡ word.place
-
--- the line is too short: a sound line can begin with its words, of which there are some, and they are none
-pub record LineTooShort (end : ℕ) (ws : List Piece) (n at : ℕ) : Type 0 where
-  pub some : 0 < length ws
-  pub begins : Begins (kinds ws)
-  pub not_sound : (p : Production) → Says (kinds ws) p → ⊥
-  pub number : n ≡ 23
-  pub place : at ≡ end
+-- what is refused: the first word with which no sound line can begin; or the end of words with which one can begin, but which are none
+pub data Refused (end : ℕ) (ws : List Piece) : ℕ → ℕ → Type 0 where
+  word_refused : (before : List Piece) (w : Piece) (after : List Piece) → ws ≡ before ++ (w ∷ after) → Begins (kinds before)
+      → (Begins (kinds before ++ (kind w.bytes ∷ [])) → ⊥) → Refused end ws (refusal_of (kind w.bytes)) w.place
+  too_short : 0 < length ws → Begins (kinds ws) → ((p : Production) → Says (kinds ws) p → ⊥) → Refused end ws 23 end
 
 -- what an outcome of a line means
 abbrev pub Means : ℕ → List Piece → Outcome → Type 0
 Means end ws nothing = ws ≡ []
 Means end ws (rule p) = Says (kinds ws) p
-Means end ws (fault n at) = WordRefused ws n at ⊎ LineTooShort end ws n at
+Means end ws (fault n at) = Refused end ws n at
 
 -- a word with a number of any length: over its limit it meets 21; with a leading zero before more it is unknown and meets 20
 pub record OfDigits (d : List ℕ) : Type 0 where
@@ -158,12 +126,10 @@ pub record OfDigits (d : List ℕ) : Type 0 where
   pub cost_over : is_numeral d ≡ true → 65535 < decimal_of d → refusal_of (kind (35 ∷ d)) ≡ 21
   pub zero_first : (a : ℕ) → 0 < length d → refusal_of (kind (a ∷ (48 ∷ d))) ≡ 20
 
--- A production as text
-
 -- how a word of that kind is written
 abbrev pub word_text : Kind → List ℕ
-word_text arrow = arrow_text
-word_text blank = blank_text
+word_text arrow = codes "->"
+word_text blank = codes "blank"
 word_text (head n) = 72 ∷ decimal n
 word_text (pattern n) = 80 ∷ decimal n
 word_text (cost n) = 35 ∷ decimal n
@@ -178,8 +144,6 @@ spaced (w ∷ ws) = w ++ each (λ (v : List ℕ). 32 ∷ v) ws
 abbrev pub line_text : Production → List ℕ
 line_text p = spaced (map word_text (front_kinds p ++ (cost p.cost ∷ [])))
 
--- Answers of the reader
-
 -- what a rule line holds
 abbrev pub production_said : RuleLine → Production
 production_said l = written l.head (take l.len l.items) l.cost
@@ -188,7 +152,6 @@ production_said l = written l.head (take l.len l.items) l.cost
 abbrev pub fault_said : LineFault → Outcome
 fault_said f = fault (line_fault_number f) (line_fault_place f)
 
--- what the reader of the rest of a line gives
 abbrev pub said : Result RuleLine LineFault → Outcome
 said (Ok l) = rule (production_said l)
 said (Err f) = fault_said f
@@ -199,15 +162,10 @@ line_said (Ok None) = nothing
 line_said (Ok (Some l)) = rule (production_said l)
 line_said (Err f) = fault_said f
 
--- a production with its first nine items, which stand for nine and more: a book refuses both alike
-abbrev pub first_nine : Production → Production
-first_nine p = written p.head (take 9 p.right) p.cost
-
--- an outcome with the first nine items
+-- an outcome with its first nine items, which stand for nine and more: a book refuses both alike
 abbrev pub in_nine : Outcome → Outcome
-in_nine nothing = nothing
-in_nine (rule p) = rule (first_nine p)
-in_nine (fault n at) = fault n at
+in_nine (rule p) = rule (written p.head (take 9 p.right) p.cost)
+in_nine o = o
 
 -- a token's word as a piece of the text
 abbrev pub token_piece : Token → Piece

@@ -1,11 +1,7 @@
 -- The lines and the words of a text, one by one.
 use Rattle.std.specs.Prelude.{◌≡◌, ◌+◌, ◌<◌, ◌≤◌, List, length, take, drop, Option, MatchOption}
-use Rattle.text.specs.Outcomes.{Outcome, line}
-use Rattle.text.specs.Words.{Piece, piece, words, IsLineEnd}
-use Rattle.text.specs.declared.lines.Line.{Line}
-use Rattle.text.specs.declared.lines.Lines.{Lines}
-use Rattle.text.specs.declared.words.Word.{Word}
-use Rattle.text.specs.declared.words.Words.{Words}
+use Rattle.text.specs.{Outcomes.Outcome, Outcomes.line, Words.Piece, Words.piece, Words.words, Words.IsLineEnd}
+use Rattle.text.specs.declared.{lines.Line.Line, lines.Lines.Lines, words.Word.Word, words.Words.Words}
 
 -- the words of a line
 abbrev pub words_of : Line → List Piece

@@ -28,7 +28,6 @@ ends_line b = b == 10
 abbrev pub parts : ℕ → Bool
 parts b = b == 32 || b == 10
 
--- the lines of a text
 abbrev pub lines : ℕ → List ℕ → List Piece
 lines at text = pieces ends_line at text
 
@@ -41,11 +40,8 @@ some_byte (b ∷ bs) = true
 abbrev pub words : ℕ → List ℕ → List Piece
 words at text = those (λ (p : Piece). some_byte p.bytes) (pieces parts at text)
 
--- the words of a line
 abbrev pub line_words : Piece → List Piece
 line_words l = words l.place l.bytes
-
--- Laws
 
 -- each byte passes the test, or fails it
 abbrev pub AllAre : (ℕ → Bool) → Bool → List ℕ → Type 0
@@ -62,8 +58,7 @@ abbrev pub Ends : List ℕ → Type 0
 Ends [] = Unit {0}
 Ends (b ∷ rest) = parts b ≡ true
 
--- the text is these words in order, with only bytes that part words before, between and after them, none inside a word, no word empty,
--- and each at its place
+-- the text is these words in order, each at its place and none empty, with bytes that part words around them and none inside
 pub data Words : ℕ → List ℕ → List Piece → Type 0 where
   none : (at : ℕ) (gap : List ℕ) → AllAre parts true gap → Words at gap []
   next : (at : ℕ) (gap : List ℕ) (b : ℕ) (w : List ℕ) (rest : List ℕ) (ws : List Piece) → AllAre parts true gap → AllAre parts false (b ∷ w) → Ends rest

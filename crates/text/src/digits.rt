@@ -1,9 +1,10 @@
 ghost use Rattle.std.specs.Prelude.{◌≡◌, ◌<◌, ◌≤◌, true, MatchOption};
-ghost use Rattle.text.specs.Numbers.{all_digits, is_numeral, decimal};
+ghost use Rattle.std.specs.List.{list_all};
+ghost use Rattle.text.specs.Numbers.{is_digit, is_numeral, decimal};
 
 // Whether every byte is a digit.
 fn all_digits(s: &[u8]) -> bool
-    ensures { result ≡ all_digits s.now }
+    ensures { result ≡ list_all is_digit s.now }
 {
     s.iter().all(|b| b.is_ascii_digit())
 }
@@ -22,7 +23,7 @@ pub(crate) fn is_numeral(s: &[u8]) -> bool
 
 // The number that digits say, or nothing where it is over a limit.
 pub fn number(digits: &[u8], limit: u32) -> Option<u32>
-    requires { all_digits digits.now ≡ true }
+    requires { list_all is_digit digits.now ≡ true }
     ensures { MatchOption result (limit < decimal digits.now) (λ n. (n ≡ decimal digits.now) × (n ≤ limit)) }
 {
     let mut n = 0u64;

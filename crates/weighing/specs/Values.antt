@@ -8,10 +8,6 @@ use Rattle.weighing.specs.declared.capped.Capped.{Capped}
 abbrev pub held : ℕ → Capped
 held m = record { n = min m 4294967295; top = min-le_right m 4294967295 }
 
--- the smaller of two numbers
-abbrev pub smaller : Capped → Capped → Capped
-smaller x y = record { n = min x.n y.n; top = le_trans (min-le_left x.n y.n) x.top }
-
 -- how many derivations there are: sums and products, each held; each cost weighs 1
 abbrev pub counts : Ops Capped
 counts = record {
@@ -27,7 +23,7 @@ abbrev pub least_costs : Ops Capped
 least_costs = record {
   zero = held 4294967295;
   one = held 0;
-  plus = smaller;
+  plus = λ x y. record { n = min x.n y.n; top = le_trans (min-le_left x.n y.n) x.top };
   times = λ x y. held (x.n + y.n);
   weight = λ cost. held cost;
 }

@@ -3,8 +3,7 @@ use Rattle.std.proofs.lemmas.Bool.{both_ways}
 use Rattle.grammar.specs.Binarise.{binarised}
 use Rattle.grammar.specs.Productions.{right_of}
 use Rattle.book.specs.Rules.{rules_book}
-use Rattle.chart.specs.Nodes.{Wrote, SameTable}
-use Rattle.chart.specs.Blanks.{blank_nodes, AllBlank}
+use Rattle.chart.specs.Inner.{Wrote, SameTable, blank_nodes, AllBlank}
 use Rattle.chart.proofs.OfBook.{rules_sound}
 use Rattle.chart.proofs.NodeTables.{wrote_full, same_then}
 use Rattle.chart.proofs.BlankRounds.{rounds_in, most_rounds, rounds_most}

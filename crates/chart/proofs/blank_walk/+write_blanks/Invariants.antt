@@ -2,8 +2,7 @@ use Rattle.std.proofs.Common.{List, ◌++◌, take}
 use Rattle.grammar.specs.Binarise.{binarised}
 use Rattle.grammar.specs.Nodes.{Node as TreeNode}
 use Rattle.book.specs.Rules.{rules_book}
-use Rattle.chart.specs.Nodes.{Wrote, SameTable}
-use Rattle.chart.specs.Blanks.{blank_nodes, AllBlank}
+use Rattle.chart.specs.Inner.{Wrote, SameTable, blank_nodes, AllBlank}
 use Rattle.chart.proofs.BlankRounds.{most_rounds}
 use Rattle.chart.proofs.blank_walk.+write_blanks.Given as goal
 

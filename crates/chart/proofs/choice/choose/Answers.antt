@@ -5,7 +5,7 @@ use Rattle.grammar.specs.Taken.{rule_fits}
 use Rattle.grammar.proofs.Spans.{span_length}
 use Rattle.conversion.specs.Views.{strict_rule_of}
 use Rattle.chart.specs.Events.{chart_book, chart_fits}
-use Rattle.chart.specs.Choices.{chart_rules, ChoiceAt, ChoiceTaken}
+use Rattle.chart.specs.Inner.{chart_rules, ChoiceAt, ChoiceTaken}
 use Rattle.chart.proofs.OfBook.{book_sound}
 use Rattle.chart.proofs.Choices.{cell_some, step_at, step_goes}
 use Rattle.chart.proofs.choice.choose.Goals as goal

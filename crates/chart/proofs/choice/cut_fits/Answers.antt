@@ -2,7 +2,7 @@ use Rattle.std.proofs.Common.{◌≡◌, ◌+◌, ◌-◌}
 use Rattle.grammar.specs.Lists.{span}
 use Rattle.grammar.specs.Taken.{yes_cell}
 use Rattle.chart.specs.Events.{chart_fits}
-use Rattle.chart.specs.Choices.{chart_rules}
+use Rattle.chart.specs.Inner.{chart_rules}
 use Rattle.chart.proofs.Firsts.{both_asked, first_asked}
 use Rattle.chart.proofs.choice.cut_fits.Goals as goal
 

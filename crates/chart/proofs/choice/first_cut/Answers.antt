@@ -1,5 +1,5 @@
 use Rattle.std.proofs.Common.{◌≡◌, ◌+◌, ◌≤◌, length, true, sym, ◌∙◌, arith}
-use Rattle.chart.specs.Choices.{chart_rules}
+use Rattle.chart.specs.Inner.{chart_rules}
 use Rattle.chart.specs.Events.{chart_fits}
 use Rattle.chart.proofs.Firsts.{count_more, count_first}
 use Rattle.chart.proofs.Choices.{fits_after, cut_first, cut_none}

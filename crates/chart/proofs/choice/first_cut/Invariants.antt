@@ -1,7 +1,7 @@
 use Rattle.std.proofs.Common.{◌≡◌, ◌-◌, false}
 use Rattle.grammar.specs.Lists.{some_of, count_up}
 use Rattle.grammar.specs.Taken.{cut_fits}
-use Rattle.chart.specs.Choices.{chart_rules, ForHeld, cut_after}
+use Rattle.chart.specs.Inner.{chart_rules, ForHeld, cut_after}
 use Rattle.chart.proofs.choice.first_cut.Given as goal
 
 abbrev pub invariant-loop-cut : goal.invariant-loop-cut

@@ -4,7 +4,7 @@ use Rattle.grammar.specs.Lists.{span}
 use Rattle.grammar.specs.Taken.{rule_fits}
 use Rattle.grammar.specs.Weighings.{yes_no}
 use Rattle.chart.specs.Events.{chart_book, chart_fits}
-use Rattle.chart.specs.Choices.{chart_rules}
+use Rattle.chart.specs.Inner.{chart_rules}
 use Rattle.chart.proofs.StrictWeights.{strict_in}
 use Rattle.chart.proofs.Choices.{rule_of_symbol, rule_first, rule_next, rule_none}
 use Rattle.chart.proofs.choice.first_rule.Goals as goal

@@ -2,7 +2,7 @@ use Rattle.std.proofs.Common.{◌≡◌, ◌&&◌, eqb, false, take}
 use Rattle.grammar.specs.Lists.{some_of, span}
 use Rattle.grammar.specs.Strict.{StrictFormRule, strict_rules}
 use Rattle.grammar.specs.Taken.{rule_fits}
-use Rattle.chart.specs.Choices.{chart_rules, ForHeld}
+use Rattle.chart.specs.Inner.{chart_rules, ForHeld}
 use Rattle.chart.proofs.choice.first_rule.Given as goal
 
 abbrev pub invariant-loop-rule : goal.invariant-loop-rule

@@ -4,7 +4,7 @@ use Rattle.grammar.specs.Lists.{span}
 use Rattle.grammar.specs.Taken.{rule_fits}
 use Rattle.conversion.specs.Views.{strict_rule_of}
 use Rattle.chart.specs.Events.{chart_fits}
-use Rattle.chart.specs.Choices.{chart_rules}
+use Rattle.chart.specs.Inner.{chart_rules}
 use Rattle.chart.proofs.Firsts.{both_asked}
 use Rattle.chart.proofs.choice.fits_at.Goals as goal
 

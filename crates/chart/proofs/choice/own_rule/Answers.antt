@@ -3,7 +3,7 @@ use Rattle.grammar.specs.Lists.{span}
 use Rattle.grammar.specs.Binarised.{empty, unit, binary, terminal}
 use Rattle.conversion.specs.Views.{right_side_of, strict_rule_of}
 use Rattle.chart.specs.Events.{chart_book, chart_fits}
-use Rattle.chart.specs.Choices.{cut_after}
+use Rattle.chart.specs.Inner.{cut_after}
 use Rattle.chart.proofs.OfBook.{book_sound}
 use Rattle.chart.proofs.Choices.{own_has, own_within, own_proper, own_leaf, own_fork, own_cut}
 use Rattle.chart.proofs.choice.own_rule.Goals as goal

@@ -3,7 +3,7 @@ use Rattle.std.proofs.lemmas.Bool.{eq-eqb}
 use Rattle.grammar.specs.Lists.{span}
 use Rattle.grammar.specs.Taken.{yes_cell}
 use Rattle.chart.specs.Events.{chart_fits}
-use Rattle.chart.specs.Choices.{chart_rules}
+use Rattle.chart.specs.Inner.{chart_rules}
 use Rattle.chart.proofs.Firsts.{both_asked}
 use Rattle.chart.proofs.choice.pattern_fits.Goals as goal
 

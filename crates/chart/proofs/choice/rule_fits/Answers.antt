@@ -5,7 +5,7 @@ use Rattle.grammar.specs.Binarise.{binarised, Within}
 use Rattle.grammar.proofs.Spans.{span_length}
 use Rattle.conversion.specs.Views.{right_side_of, strict_rule_of}
 use Rattle.chart.specs.Events.{chart_book, chart_fits}
-use Rattle.chart.specs.Choices.{chart_rules}
+use Rattle.chart.specs.Inner.{chart_rules}
 use Rattle.chart.proofs.OfBook.{book_sound}
 use Rattle.chart.proofs.Choices.{symbols_least, strict_right, terminal_fits_one, binary_fits, found_fits}
 use Rattle.chart.proofs.choice.rule_fits.Goals as goal

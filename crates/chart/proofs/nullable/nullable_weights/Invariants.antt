@@ -1,4 +1,5 @@
-use Rattle.chart.specs.Weights.{rules_book, WeightsAfter}
+use Rattle.chart.specs.Weights.{rules_book}
+use Rattle.chart.specs.Inner.{WeightsAfter}
 use Rattle.chart.proofs.nullable.nullable_weights.Given as goal
 
 abbrev pub invariant-loop-at : goal.invariant-loop-at

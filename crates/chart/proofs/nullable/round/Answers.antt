@@ -1,7 +1,8 @@
 use Rattle.std.proofs.Common.{ap, ◌∙◌}
 use Rattle.grammar.specs.Weights.{binarised_weight}
 use Rattle.conversion.specs.Views.{right_side_of}
-use Rattle.chart.specs.Weights.{rules_book, right_weight}
+use Rattle.chart.specs.Weights.{rules_book}
+use Rattle.chart.specs.Inner.{right_weight}
 use Rattle.chart.proofs.NullableWeights.{turn_none, turn_other, turn_more}
 use Rattle.chart.proofs.OfBook.{rules_sound}
 use Rattle.chart.proofs.nullable.round.Goals as goal

@@ -7,8 +7,8 @@ use Rattle.grammar.proofs.Totals.{takes_one}
 use Rattle.chart.specs.Events.{chart_book, chart_fits}
 use Rattle.book.specs.Rules.{rules_book}
 use Rattle.grammar.specs.Lists.{span}
-use Rattle.chart.specs.Writing.{Stands}
-use Rattle.chart.specs.Nodes.{nodes_of, Wrote}
+use Rattle.chart.specs.Nodes.{nodes_of}
+use Rattle.chart.specs.Inner.{Wrote, Stands}
 use Rattle.chart.specs.Readings.{reading_answer, ReadingIs}
 use Rattle.chart.proofs.OfBook.{book_sound}
 use Rattle.chart.proofs.Choices.{symbols_least}

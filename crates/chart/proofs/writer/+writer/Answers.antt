@@ -8,12 +8,9 @@ use Rattle.grammar.specs.Nullable.{nullable, nullable_tree}
 use Rattle.grammar.specs.Taken.{step_over, Takes}
 use Rattle.grammar.proofs.Spans.{span_length}
 use Rattle.conversion.specs.Views.{drop_of}
-use Rattle.chart.specs.Blanks.{blank_nodes, AllBlank}
 use Rattle.chart.specs.declared.choice.Choice.TheVariants.{Step, Leaf, Fork}
 use Rattle.chart.specs.Events.{chart_book, chart_fits}
-use Rattle.chart.specs.Nodes.{Wrote, room}
-use Rattle.chart.specs.Choices.{chart_rules, choice_number, ChoiceAt, ChoiceTaken}
-use Rattle.chart.specs.Writing.{RuleOver, Stands, below_root}
+use Rattle.chart.specs.Inner.{chart_rules, choice_number, ChoiceAt, ChoiceTaken, Wrote, room, RuleOver, Stands, below_root, blank_nodes, AllBlank}
 use Rattle.chart.proofs.OfBook.{book_sound}
 use Rattle.chart.proofs.NodeTables.{wrote_full, room_left}
 use Rattle.chart.proofs.Writing.{leaf_below, unit_below, right_below, left_below, fork_below, tail_below, taken_root, taken_yes, pattern_nodes, head_chosen, choice_over, over_some, tail_over, step_small, fork_small, over_unit, over_binary, over_blank, over_left, right_short}

@@ -1,5 +1,5 @@
 use Rattle.std.proofs.Common.{◌+◌, ◌*◌, length}
-use Rattle.chart.specs.Nodes.{room}
+use Rattle.chart.specs.Inner.{room}
 use Rattle.chart.proofs.writer.+writer.Given as goal
 
 abbrev pub decreases-write_symbol : goal.decreases-write_symbol

@@ -1,5 +1,5 @@
 use Rattle.conversion.specs.Binarised.{grammar_of}
-use Rattle.conversion.specs.Held.{NullablesAfter}
+use Rattle.conversion.specs.Rounds.{NullablesAfter}
 use Rattle.conversion.proofs.nullables.nullable.Given as goal
 
 abbrev pub invariant-loop-round : goal.invariant-loop-round

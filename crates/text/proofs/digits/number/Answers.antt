@@ -1,6 +1,6 @@
 use Rattle.std.proofs.Common.{ℕ, ◌+◌, ◌-◌, ◌*◌, ◌≤◌, List, [], ◌∷◌, get_or, drop, sym, ◌∙◌, arith}
 use Rattle.std.proofs.lemmas.List.{at_drop_more}
-use Rattle.text.specs.Numbers.{decimal_after}
+use Rattle.text.proofs.Short.{decimal_after}
 use Rattle.text.proofs.digits.number.Goals as goal
 
 grows : (n : ℕ) (ds : List ℕ) → n ≤ decimal_after n ds

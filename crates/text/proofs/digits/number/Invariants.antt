@@ -1,6 +1,5 @@
 use Rattle.std.proofs.Common.{◌≡◌, ◌≤◌, true, drop}
-use Rattle.text.specs.Numbers.{decimal_after}
-use Rattle.text.specs.Numbers.{all_digits}
+use Rattle.text.proofs.Short.{decimal_after, all_digits}
 use Rattle.text.proofs.digits.number.Given as goal
 
 abbrev pub invariant-loop-d : goal.invariant-loop-d

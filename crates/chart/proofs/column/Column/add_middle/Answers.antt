@@ -2,8 +2,7 @@ use Rattle.std.proofs.Common.{ℕ, ap, ◌∙◌, subst}
 use denote.Param.{layout}
 use Rattle.grammar.specs.Lists.{Mem}
 use Rattle.book.specs.Books.{closed_book}
-use Rattle.chart.specs.Charts.{over_parts}
-use Rattle.chart.specs.Pairs.{pairs_sum}
+use Rattle.chart.specs.Inner.{over_parts, pairs_sum}
 use Rattle.chart.specs.Table.{cell_place, cell_at}
 use Rattle.chart.proofs.Sizes.{pairs_small}
 use Rattle.chart.proofs.PairAdding.{added_starts_as}

@@ -1,6 +1,6 @@
 use Rattle.std.proofs.Common.{◌≡◌, sym, refl, ◌∙◌, subst, arith}
-use Rattle.chart.specs.Pairs.{pairs_sum}
-use Rattle.chart.specs.Table.{cell_place, cell_at, Added}
+use Rattle.chart.specs.Table.{cell_place, cell_at}
+use Rattle.chart.specs.Inner.{Added, pairs_sum}
 use Rattle.chart.proofs.Places.{cell_before}
 use Rattle.chart.proofs.PairAdding.{SomePairs, no_pair, sum_added, sum_kept, one_pair, all_pairs, pair_in}
 use Rattle.chart.proofs.column.Column.add_pairs.Goals as goal

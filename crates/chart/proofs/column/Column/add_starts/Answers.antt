@@ -1,6 +1,6 @@
 use Rattle.std.proofs.Common.{◌≡◌, sym, subst, arith}
-use Rattle.chart.specs.Pairs.{pairs_sum, PairsWithin}
-use Rattle.chart.specs.Table.{cell_place, cell_at, Added}
+use Rattle.chart.specs.Table.{cell_place, cell_at}
+use Rattle.chart.specs.Inner.{Added, pairs_sum, PairsWithin}
 use Rattle.chart.proofs.PairAdding.{SomeStarts, no_start, one_start}
 use Rattle.chart.proofs.SameColumns.{same_column, same_after, as_before}
 use Rattle.chart.proofs.column.Column.add_starts.Goals as goal

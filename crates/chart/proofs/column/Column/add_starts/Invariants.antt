@@ -1,6 +1,5 @@
-use Rattle.chart.specs.Pairs.{pairs_sum}
-use Rattle.chart.specs.Table.{cell_place, cell_at, AddedStarts}
-use Rattle.chart.specs.Columns.{SameColumn}
+use Rattle.chart.specs.Table.{cell_place, cell_at}
+use Rattle.chart.specs.Inner.{SameColumn, AddedStarts, pairs_sum}
 use Rattle.chart.proofs.column.Column.add_starts.Given as goal
 
 abbrev pub invariant-loop-start : goal.invariant-loop-start

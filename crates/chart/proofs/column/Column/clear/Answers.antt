@@ -1,5 +1,6 @@
 use Rattle.std.proofs.Common.{◌≡◌, ◌+◌, subst, ◌∙◌, length-set, arith}
-use Rattle.chart.specs.Table.{column_place, Cleared}
+use Rattle.chart.specs.Table.{column_place}
+use Rattle.chart.specs.Inner.{Cleared}
 use Rattle.chart.proofs.Places.{start_mono}
 use Rattle.chart.proofs.Adding.{cleared_none, cleared_more}
 use Rattle.chart.proofs.SameColumns.{same_column}

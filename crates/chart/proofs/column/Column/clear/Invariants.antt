@@ -1,5 +1,4 @@
-use Rattle.chart.specs.Table.{Cleared}
-use Rattle.chart.specs.Columns.{SameColumn}
+use Rattle.chart.specs.Inner.{SameColumn, Cleared}
 use Rattle.chart.proofs.column.Column.clear.Given as goal
 
 abbrev pub invariant-loop-place : goal.invariant-loop-place

@@ -1,8 +1,8 @@
 use Rattle.std.proofs.Common.{◌+◌, ◌-◌, arith}
 use denote.Param.{layout}
 use Rattle.book.specs.Books.{closed_book, closed_fits}
-use Rattle.chart.specs.Charts.{over_event, over_parts}
-use Rattle.chart.specs.Table.{column_place, cell_place, cell_at, SameOutside, Added, AddedStarts}
+use Rattle.chart.specs.Table.{column_place, cell_place, cell_at, SameOutside}
+use Rattle.chart.specs.Inner.{Added, AddedStarts, over_event, over_parts}
 use Rattle.chart.proofs.OfBook.{book_sound}
 use Rattle.chart.proofs.Sizes.{pairs_small}
 use Rattle.chart.proofs.Outside.{same_all}

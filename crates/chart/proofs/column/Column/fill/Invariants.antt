@@ -1,7 +1,7 @@
 use Rattle.std.proofs.Common.{◌+◌}
 use Rattle.book.specs.Books.{closed_book, closed_fits}
 use Rattle.chart.specs.Table.{column_place, SameOutside}
-use Rattle.chart.specs.Columns.{SameColumn}
+use Rattle.chart.specs.Inner.{SameColumn}
 use Rattle.chart.proofs.OfBook.{book_sound}
 use Rattle.chart.proofs.Filling.{Middles}
 use Rattle.chart.proofs.column.Column.fill.Given as goal

@@ -2,8 +2,8 @@ use Rattle.std.proofs.Common.{◌≡◌, ◌+◌, ◌-◌, cond, ◌∙◌, subs
 use Rattle.grammar.specs.Cells.{terminal_fits}
 use Rattle.conversion.specs.Views.{right_side_of}
 use Rattle.book.specs.Books.{closed_book, closed_fits}
-use Rattle.chart.specs.Table.{cell_place, SameOutside, Added}
-use Rattle.chart.specs.Charts.{over_event}
+use Rattle.chart.specs.Table.{cell_place, SameOutside}
+use Rattle.chart.specs.Inner.{Added, over_event}
 use Rattle.chart.proofs.OfBook.{weighs_of, book_sound}
 use Rattle.chart.proofs.RuleSums.{symbol_within, weighed_many}
 use Rattle.chart.proofs.Outside.{same_all, same_then}

@@ -1,7 +1,7 @@
 use Rattle.std.proofs.Common.{◌+◌}
 use Rattle.book.specs.Books.{closed_book, closed_fits}
 use Rattle.chart.specs.Table.{SameOutside}
-use Rattle.chart.specs.Columns.{SameColumn}
+use Rattle.chart.specs.Inner.{SameColumn}
 use Rattle.chart.proofs.EventSums.{Events}
 use Rattle.chart.proofs.column.Column.one_event.Given as goal
 

@@ -3,7 +3,7 @@ use Rattle.grammar.specs.Lists.{each, below}
 use Rattle.grammar.specs.Strict.{StrictFormRule, strict_rules_of}
 use Rattle.conversion.specs.Views.{strict_rule_of}
 use Rattle.conversion.specs.Binarised.{grammar_of}
-use Rattle.conversion.specs.Found.{Holds}
+use Rattle.conversion.specs.Forms.{Holds}
 use Rattle.conversion.proofs.Each.{each_more}
 use Rattle.conversion.proofs.Found.{found_none, strict_rules_found}
 use Rattle.conversion.proofs.strict.StrictRules.all.Goals as goal

@@ -1,7 +1,7 @@
 use Rattle.grammar.specs.Lists.{each, below}
 use Rattle.grammar.specs.Strict.{strict_rules_of}
 use Rattle.conversion.specs.Binarised.{grammar_of}
-use Rattle.conversion.specs.Found.{Holds}
+use Rattle.conversion.specs.Forms.{Holds}
 use Rattle.conversion.proofs.strict.StrictRules.all.Given as goal
 
 abbrev pub invariant-loop-symbol : goal.invariant-loop-symbol
