@@ -6,21 +6,26 @@ use Rattle.grammar.specs.Weighings.{yes_no, counts, costs}
 use Rattle.grammar.specs.Readings.{Reading, Reads}
 use Rattle.grammar.specs.PlainReadings.{PlainList, Unread}
 use Rattle.grammar.specs.Weights.{total_of}
-use Rattle.grammar.specs.Promises.{PlainSum, WholeSum, YesCells, CellSets, Least}
+use Rattle.grammar.specs.Grammars.{Generates, book_grammar}
+use Rattle.grammar.specs.Promises.{Bijection, ByPlace, PlainSum, WholeSum, YesCells, CellSets, Least}
 
 -- r is the total of these events: that of the definition, which is the sum over the plain readings, and, where no production is empty or
--- one head alone, the sum over all readings
+-- one head alone, the sum over all readings. Plain is said of binarised forms, which are one to one with the readings; and the cells that
+-- the total was worked out from obey the two equations
 pub record TotalIs (W : Book) {V E : Type 0} (M : Ops V) (fits : E → ℕ → Bool) (es : List E) (r : V) : Type 0 where
   pub is_total : r ≡ total_of W M fits es
   pub plain : PlainSum W M fits es
   pub whole : ProperBook W → WholeSum W M fits es
+  pub forms : Bijection W fits 0 es
+  pub equations : (x i : ℕ) → ByPlace W M fits es x i
 
--- r says whether there is a reading of these events. The cells that it was worked out from are the sets of the Cocke-Younger-Kasami chart
--- of the strict grammar: those symbols that it rewrites to the events of the cell
+-- r says whether there is a reading of these events: whether they are in the language of head 0 by the rules as written. The cells that it
+-- was worked out from are the sets of the Cocke-Younger-Kasami chart of the strict grammar: those symbols that it rewrites to the events of the cell
 pub record Explained (W : Book) {E : Type 0} (fits : E → ℕ → Bool) (es : List E) (r : Bool) : Type 0 where
   pub is_total : r ≡ total_of W yes_no fits es
   pub yes : (r ≡ true) ↔ ((q : Reading) × Reads W fits 0 q es)
   pub no : (r ≡ false) ↔ Unread W fits es
+  pub generated : (r ≡ true) ↔ Generates (book_grammar W) fits 0 es
   pub sets : (x : ℕ) → CellSets W fits x
   pub cells : (x : ℕ) (w : List E) → YesCells W fits x w
 
