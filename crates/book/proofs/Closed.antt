@@ -4,6 +4,8 @@ use Rattle.std.proofs.lemmas.List.{take_all}
 use Rattle.grammar.specs.Productions.{Book}
 use Rattle.grammar.specs.Binarise.{binarised, Admitted}
 use Rattle.grammar.specs.Strict.{StrictFormRule, strict_rules}
+use Rattle.grammar.proofs.NullableRounds.{found_in_rounds}
+use Rattle.grammar.proofs.Chosen.{nullable_chosen, chain_chosen}
 use Rattle.grammar.proofs.StrictOrder.{strict_listed}
 use Rattle.grammar.proofs.StrictForm.{strict_forms}
 use Rattle.conversion.specs.declared.form.StrictForm.{StrictForm}
@@ -37,4 +39,11 @@ pub closed_converted : (E : Type 0) (c : Converted) → StrictRulesAre E (rules_
 closed_converted E c =
     let W = rules_book c.rules in
     let a = admitted_of W c.rules.admitted in
-    record { listed = strict_kept W c.form c.rules.admitted c.formed; only = strict_listed W a.sound; language = strict_forms E W a.sound }
+    record {
+      listed = strict_kept W c.form c.rules.admitted c.formed;
+      only = strict_listed W a.sound;
+      language = strict_forms E W a.sound;
+      rounds = found_in_rounds W a.sound;
+      nullable = nullable_chosen W a.sound;
+      chains = chain_chosen W a.sound;
+    }

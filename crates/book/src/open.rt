@@ -26,8 +26,8 @@ impl<'p, A: Alphabet> OpenBook<'p, A> {
     // A book over a table of patterns, with no rule.
     pub fn new(table: PatternTable<'p, A>) -> OpenBook<'p, A>
         ensures none { open_held result ≡ [] }
-        ensures table { result.table.patterns.now ≡ table.exit.patterns.now }
-        ensures runs { held_after (length table.exit.patterns.now) [] ≡ open_held result }
+        ensures table { result.table.patterns.now ≡ table.entry.patterns.now }
+        ensures runs { held_after (length table.entry.patterns.now) [] ≡ open_held result }
     {
         let rules = Rules::none(table.count());
         OpenBook { table, rules }

@@ -3,6 +3,7 @@ use Rattle.std.proofs.Common.{◌≡◌, ℕ, Bool, List, sym, refl, ap, ◌∙�
 use Rattle.grammar.specs.Productions.{Book, Sound}
 use Rattle.grammar.specs.Weighings.{yes_no, counts, costs, Keeps}
 use Rattle.grammar.specs.Weights.{total_of}
+use Rattle.grammar.proofs.Grammars.{generates_reads}
 use Rattle.grammar.proofs.Totals.{sums_plain, none_exact, least_exact, carries}
 use Rattle.grammar.proofs.Chart.{yes_chart, symbol_sets}
 use Rattle.weighing.specs.declared.capped.Capped.{Capped}
@@ -28,6 +29,7 @@ module _ {E : Type 0} (W : Book) (sound : Sound W) (fits : E → ℕ → Bool) (
         is_total = e;
         yes = ((λ q. exact.says_yes.0 (sym e ∙ q)), (λ q. e ∙ exact.says_yes.1 q));
         no = ((λ q. exact.says_no.0 (sym e ∙ q)), (λ q. e ∙ exact.says_no.1 q));
+        generated = ((λ q. (generates_reads W fits 0 es).1 (exact.says_yes.0 (sym e ∙ q))), (λ q. e ∙ exact.says_yes.1 ((generates_reads W fits 0 es).0 q)));
         sets = λ x. symbol_sets E W sound fits x;
         cells = λ x w. yes_chart E W sound fits x w;
       }

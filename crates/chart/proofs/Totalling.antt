@@ -6,6 +6,8 @@ use Rattle.grammar.specs.Semiring.{Ops, Semiring}
 use Rattle.grammar.specs.Productions.{Book, Sound}
 use Rattle.grammar.specs.Binarise.{binarised}
 use Rattle.grammar.specs.Weights.{cell_of, total_of}
+use Rattle.grammar.proofs.Binarise.{one_to_one}
+use Rattle.grammar.proofs.Chart.{span_equations}
 use Rattle.grammar.proofs.Totals.{sums_plain, sums_all}
 use Rattle.chart.specs.Table.{column_place, cell_place, SameOutside}
 use Rattle.chart.specs.Charts.{HoldsChart}
@@ -25,7 +27,13 @@ outside_as d s S n k was is p q =
 
 module _ {V E : Type 0} (W : Book) (sound : Sound W) (M : Ops V) (L : Semiring M) (fits : E → ℕ → Bool) where
   pub total_is : (es : List E) (r : V) → r ≡ total_of W M fits es → TotalIs W M fits es r
-  total_is es r e = record { is_total = e; plain = sums_plain M L E W sound fits es; whole = λ proper. sums_all M L E W sound proper fits es }
+  total_is es r e = record {
+    is_total = e;
+    plain = sums_plain M L E W sound fits es;
+    whole = λ proper. sums_all M L E W sound proper fits es;
+    forms = one_to_one E W sound fits 0 es (omega arith);
+    equations = span_equations M L E W fits es;
+  }
 
   -- without events it is the total of nothing
   pub total_nothing : (es : List E) (r : V) → length es ≡ 0 → r ≡ total_of W M fits [] → r ≡ total_of W M fits es

@@ -75,6 +75,7 @@ fn fill<A: Alphabet, W: Weighing>(
 }
 
 impl<'b, 'p, 't, A: Alphabet, W: Weighing> Chart<'b, 'p, 't, A, W> {
+    ghost use Rattle.grammar.specs.Promises.{ByPlace};
     ghost use Rattle.chart.specs.Events.{Holds, chart_book, chart_fits, FitsByRelation};
     ghost use Rattle.chart.specs.Feeds.{FedEvent, Withdrawn};
     ghost use Rattle.chart.specs.Runs.{a_feed, a_withdraw, HoldsAfter, RunsOn};
@@ -105,6 +106,7 @@ impl<'b, 'p, 't, A: Alphabet, W: Weighing> Chart<'b, 'p, 't, A, W> {
     // One event more: how many are held then, or the refusal.
     pub fn feed(&mut self, event: A::Event) -> Result<usize, FeedFault>
         ensures fed { FedEvent W.Weighing.ops A.Alphabet.test event self.old self.new result }
+        ensures equations { (es : List A.Event) (x i : ℕ) → ByPlace (chart_book self.new) W.Weighing.ops (chart_fits A.Alphabet.test self.new) es x i }
         ensures runs { RunsOn W.Weighing.ops A.Alphabet.test (a_feed event) self.old self.new }
         ensures long { length self.new.weights.now ≡ length self.old.weights.now }
         ensures book { self.new.book ≡ self.old.book }

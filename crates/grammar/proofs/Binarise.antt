@@ -7,6 +7,7 @@ use Rattle.grammar.specs.Productions.{Book, Numbers, head_of, right_of, first_ta
 use Rattle.grammar.specs.Readings.{Reading, Parts, node, no_part, event, part, Reads, by_rule, Along, at_end, at_event, at_part}
 use Rattle.grammar.specs.Binarise.{binaries, binarise_right, binarised, forks, stand, one_event, binarise, binarise_parts}
 use Rattle.grammar.proofs.Short.{binarise_production, shape}
+use Rattle.grammar.specs.Promises.{OneToOne}
 use Rattle.grammar.proofs.BinarisedRules.{binarised_has, terminal_has, one_item_unit, one_item_terminal, item_small, binarised_same, tail_same, head_rule, symbol_rule, right_empty, right_unit, right_terminal, right_binary}
 
 -- every rule of the list is one of these rules
@@ -306,3 +307,11 @@ module _ (W : Book) {E : Type 0} (fits : E → ℕ → Bool) where
     parts_injective {ys = y ∷ ys} (at_part {r = r} {ps = ps} s d a c) (at_part {r = r'} {ps = ps'} s' d' a' c') e =
         ap₂ part (binarised_injective d d' (let p : binarise W r ≡ binarise W r' = cc in p))
         (parts_injective a a' (let p : binarise_parts W ys ps ≡ binarise_parts W ys ps' = cc in p))
+
+-- readings and derivation trees of binarised rules are one to one
+pub one_to_one : (E : Type 0) → OneToOne E
+one_to_one E W S fits x w l = record {
+  derives = λ r d. binarised_derives W S fits d;
+  onto = λ s d. binarised_back W S fits l d;
+  into = λ r q d e i. binarised_injective W fits d e i;
+}

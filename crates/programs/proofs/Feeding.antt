@@ -19,7 +19,7 @@ use Rattle.chart.proofs.Totalling.{no_refusal}
 use Rattle.programs.specs.Answers.{RoomFor, FedAll}
 
 -- where a feed is not refused there is room for one event more
-room_more : (S m n i e : ℕ) → e ≡ n + i → e ≤ 256 → feed_refusal S m e ≡ 0 → RoomFor S m n (i + 1)
+pub room_more : (S m n i e : ℕ) → e ≡ n + i → e ≤ 256 → feed_refusal S m e ≡ 0 → RoomFor S m n (i + 1)
 room_more S m n i e h few none =
     let full : e < 256 = grind (arith, nat_tests) in
     let long : column_place S (e + 2) ≤ m = grind (arith, nat_tests) in

@@ -22,6 +22,7 @@ use Rattle.chart.specs.Totals.{CountsReadings, IsLeastCost}
 use Rattle.chart.proofs.ByKind.{explained_by, counted_by, least_by}
 use Rattle.programs.specs.Output.{letter_fits, rules_part, traces_part, TotalsMean, LineMeans}
 use Rattle.programs.proofs.Parts.{divided, lines_law}
+use Rattle.programs.proofs.Printing.{room_law}
 
 -- A load keeps to the bounds of a book
 
@@ -85,6 +86,7 @@ output_means input = record {
   divided = divided input;
   traces = lines_law (traces_part input);
   loads = load_means 26 [] (rules_part input) (omega arith);
+  room = room_law;
   fits = tests_table (λ (p e : ℕ). p ≡ e) nat_eq bytes_tested (count_up 97 26);
   totals = λ rules n e. totals_mean (book 26 rules) (load_admitted 26 (rules_part input) rules n (omega arith) e).sound;
 }

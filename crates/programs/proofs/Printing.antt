@@ -1,10 +1,10 @@
 -- The lines that are printed for traces.
-use Rattle.std.proofs.Common.{◌≡◌, ℕ, ◌+◌, ◌<◌, ◌≤◌, Bool, true, false, ◌&&◌, ltb, leb, nat_eq, Result, List, [], ◌∷◌, ◌++◌, length, sym, refl, ap, ◌∙◌, subst, inl, inr, ⊎_elim, zero-add, zero-mul, arith}
+use Rattle.std.proofs.Common.{◌≡◌, ℕ, zero, suc, ◌+◌, ◌<◌, ◌≤◌, ◌↔◌, Bool, true, false, ◌&&◌, ltb, leb, nat_eq, Result, List, [], ◌∷◌, ◌++◌, length, sym, refl, ap, ◌∙◌, subst, inl, inr, ⊎_elim, zero-add, zero-mul, arith}
 use Rattle.std.specs.Prelude.{OnOk, decimal, codes}
 use Rattle.std.proofs.lemmas.Result.{on_ok_weaker}
 use Rattle.std.specs.Fmt.{digits}
-use Rattle.std.proofs.lemmas.Bool.{both_ways, cases_Bool, cond-true, cond-false, lt-ltb, le-ltb, le-leb, leb-true}
-use Rattle.grammar.specs.Cells.{column_place}
+use Rattle.std.proofs.lemmas.Bool.{both_ways, cases_lt, cases_Bool, cond-true, cond-false, lt-ltb, le-ltb, le-leb, leb-true}
+use Rattle.grammar.specs.Cells.{column_place, feed_refusal}
 use Rattle.grammar.specs.Binarise.{binarised}
 use Rattle.book.specs.declared.alphabet.Alphabet.{Ghosts}
 use Rattle.book.specs.declared.books.ClosedBook.{ClosedBook}
@@ -13,6 +13,10 @@ use Rattle.book.specs.Loads.{load}
 use Rattle.chart.specs.declared.fault.FeedFault.{FeedFault}
 use Rattle.chart.specs.declared.fault.FeedFault.TheVariants.{NoRoom}
 use Rattle.chart.specs.Faults.{feed_number}
+use Rattle.chart.proofs.Places.{start_mono}
+use Rattle.chart.proofs.Running.{no_room}
+use Rattle.chart.proofs.Totalling.{no_refusal}
+use Rattle.programs.proofs.Feeding.{room_more}
 use Rattle.programs.specs.declared.totals.Totals.{Totals}
 use Rattle.programs.specs.declared.totals.Tables.{Tables}
 use Rattle.programs.specs.Answers.{AreTotals, HasRoom, HaveRoom, totals_words}
@@ -41,6 +45,24 @@ room_there S n h =
     let p = both_true (leb n 256) (leb (column_place S (n + 1)) 15360) h in
     let few : n ≤ 256 = leb-true n 256 p.0 in
     inr (omega arith, subst (λ k. column_place S (k + 1) ≤ 15360) (sym (zero-add n)) (leb-true (column_place S (n + 1)) 15360 p.1))
+
+-- there is room for a trace exactly if no feed of its events is refused
+no_feed_refused : (S n k : ℕ) → k < n → HasRoom S 15360 n → feed_refusal S 15360 k ≡ 0
+no_feed_refused S n k l (inl none) = absurd (omega arith)
+no_feed_refused S n k l (inr (few, low)) = no_refusal S 15360 k (omega arith) (omega (arith, low, start_mono S (k + 2) (0 + n + 1) (omega arith)))
+
+at_most_256 : (S n : ℕ) → ((k : ℕ) → k < n → feed_refusal S 15360 k ≡ 0) → n ≤ 256
+at_most_256 S n all = ⊎_elim (λ (h : 256 < n). omega (arith, all 256 h, no_room S 15360 256 (omega arith) (inl (omega arith)))) (λ (h : n ≤ 256). h) (cases_lt 256 n)
+
+each_feed_taken : (S n : ℕ) → ((k : ℕ) → k < n → feed_refusal S 15360 k ≡ 0) → HasRoom S 15360 n
+each_feed_taken S zero all = inl refl
+each_feed_taken S (suc n) all =
+    let few = at_most_256 S (suc n) all in
+    let next : n + 1 ≡ suc n = omega arith in
+    subst (HasRoom S 15360) next (room_more S 15360 0 n n (omega arith) (omega arith) (all n (omega arith)))
+
+pub room_law : (S n : ℕ) → (has_room S n ≡ true) ↔ ((k : ℕ) → k < n → feed_refusal S 15360 k ≡ 0)
+room_law S n = ((λ h k l. no_feed_refused S n k l (room_there S n h)), (λ all. room_yes S n (each_feed_taken S n all)))
 
 -- the three tables have as many weights
 one_room : (S n : ℕ) (t : Tables) → HaveWeights t → HaveRoom S t n → HasRoom S 15360 n

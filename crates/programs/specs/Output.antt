@@ -1,9 +1,9 @@
 -- What the line program prints.
-use Rattle.std.specs.Prelude.{◌≡◌, ℕ, ◌+◌, Bool, false, cond, ◌&&◌, ◌⊎◌, ◌↔◌, List, [], ◌∷◌, ◌++◌, map, length, take, drop, nat_eq, nat_le, nat_lt, codes, decimal, ◌≢◌, vec_len}
+use Rattle.std.specs.Prelude.{◌≡◌, ℕ, ◌+◌, ◌<◌, Bool, true, false, cond, ◌&&◌, ◌⊎◌, ◌↔◌, List, [], ◌∷◌, ◌++◌, map, length, take, drop, nat_eq, nat_le, nat_lt, codes, decimal, ◌≢◌, vec_len}
 use Rattle.grammar.specs.Lists.{Mem, each, first_of, same_numbers, count_up}
 use Rattle.grammar.specs.Productions.{Production, Book}
 use Rattle.grammar.specs.Binarise.{binarised}
-use Rattle.grammar.specs.Cells.{column_place}
+use Rattle.grammar.specs.Cells.{column_place, feed_refusal}
 use Rattle.grammar.specs.Weighings.{yes_no, counts, costs}
 use Rattle.grammar.specs.Weights.{total_of}
 use Rattle.text.specs.Words.{Piece, piece, lines, ends_line, some_byte, AllAre}
@@ -109,6 +109,8 @@ pub record LineMeans (input : List ℕ) : Type 0 where
   pub traces : (ws : List (List ℕ)) → LinesAre (traces_part input) ws ↔ (ws ≡ line_texts (traces_part input))
   -- the rules are loaded line by line
   pub loads : LoadMeans 26 [] (rules_part input)
+  -- a trace has no room exactly if the feed of one of its events is refused
+  pub room : (S n : ℕ) → (has_room S n ≡ true) ↔ ((k : ℕ) → k < n → feed_refusal S 15360 k ≡ 0)
   -- a pattern fits its letter
   pub fits : TestsTable (λ (p e : ℕ). p ≡ e) (count_up 97 26) letter_fits
   -- the totals are those of the readings by the rules loaded

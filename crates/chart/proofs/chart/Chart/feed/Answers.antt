@@ -1,5 +1,6 @@
 use Rattle.std.proofs.Common.{◌≡◌, ◌+◌, ◌<◌, ◌≤◌, ◌⊎◌, inl, inr, Ok, Err, length, ap, ◌∙◌, refl, subst, arith, rules}
 use Rattle.std.proofs.lemmas.List.{length_push}
+use Rattle.grammar.proofs.Chart.{span_equations}
 use Rattle.chart.specs.Table.{column_place}
 use Rattle.chart.specs.Events.{chart_symbols}
 use Rattle.chart.proofs.Totalling.{no_refusal, outside_as}
@@ -48,3 +49,9 @@ returns-then-n-ge-EVENTS-clause-runs g c =
       | then-n-ge-EVENTS-via-else-n-ge-EVENTS+then-self-column_place w ↦ inr (omega (arith, w.column_place.ensures ∙ ap (λ s. column_place s (n + 2)) w.symbols.ensures.means, w.if-self-column_place.true))
     ] in
     feed_runs g.W.Weighing.ops g.A.Alphabet.test c.args.event was was (Err NoRoom) (no_room S m n was.few none, refl) refl refl
+
+pub returns-clause-equations : goal.returns-clause-equations
+returns-clause-equations g c es x i = span_equations g.W.Weighing.ops g.met.W.Weighing.semiring _ _ _ es x i
+
+pub returns-then-n-ge-EVENTS-clause-equations : goal.returns-then-n-ge-EVENTS-clause-equations
+returns-then-n-ge-EVENTS-clause-equations g c es x i = span_equations g.W.Weighing.ops g.met.W.Weighing.semiring _ _ _ es x i
