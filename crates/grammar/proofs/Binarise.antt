@@ -7,7 +7,7 @@ use Rattle.grammar.specs.Productions.{Book, Numbers, head_of, right_of, first_ta
 use Rattle.grammar.specs.Readings.{Reading, Parts, node, no_part, event, part, Reads, by_rule, Along, at_end, at_event, at_part}
 use Rattle.grammar.specs.Binarise.{binaries, binarise_right, binarised, forks, stand, one_event, binarise, binarise_parts}
 use Rattle.grammar.proofs.Short.{binarise_production, shape}
-use Rattle.grammar.specs.Promises.{OneToOne}
+use Rattle.grammar.specs.Promises.{Bijection}
 use Rattle.grammar.proofs.BinarisedRules.{binarised_has, terminal_has, one_item_unit, one_item_terminal, item_small, binarised_same, tail_same, head_rule, symbol_rule, right_empty, right_unit, right_terminal, right_binary}
 
 -- every rule of the list is one of these rules
@@ -309,7 +309,7 @@ module _ (W : Book) {E : Type 0} (fits : E → ℕ → Bool) where
         (parts_injective a a' (let p : binarise_parts W ys ps ≡ binarise_parts W ys ps' = cc in p))
 
 -- readings and derivation trees of binarised rules are one to one
-pub one_to_one : (E : Type 0) → OneToOne E
+pub one_to_one : (E : Type 0) (W : Book) → Sound W → (fits : E → ℕ → Bool) (x : ℕ) (w : List E) → x < 32 → Bijection W fits x w
 one_to_one E W S fits x w l = record {
   derives = λ r d. binarised_derives W S fits d;
   onto = λ s d. binarised_back W S fits l d;
