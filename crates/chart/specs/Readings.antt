@@ -30,6 +30,8 @@ Coherent B fits w = (x : ℕ) (r : StrictFormRule) (s : ChainStep) (c : List Cha
 pub record ReadingIs (W : Book) {E : Type 0} (fits : E → ℕ → Bool) (es : List E) (t : List Node) (a : Answer) (t' : List Node) : Type 0 where
   -- there is no reading, and the table is as before; or the nodes of the reading taken were written, as many as the table takes
   pub answers : Answers W fits es t a t'
+  -- no other answer and no other table would do
+  pub once : (b : Answer) (s : List Node) → Answers W fits es t b s → (b ≡ a) × (s ≡ t')
   -- none is answered exactly if there is no reading
   pub none_exactly : (a ≡ none) ↔ Unread W fits es
   -- where there is a reading one is taken, it is plain, and it is the only one
