@@ -22,7 +22,7 @@ use Rattle.grammar.proofs.NodeSpans.{spans, within}
 use Rattle.grammar.proofs.Tables.{tables}
 use Rattle.grammar.proofs.BinarisedRules.{binarised_bounded}
 use Rattle.grammar.proofs.Coherent.{first_below}
-use Rattle.grammar.proofs.Totals.{takes_one}
+use Rattle.grammar.proofs.Totals.{takes_one, answers_once}
 use Rattle.chart.specs.Totals.{Explained}
 use Rattle.chart.specs.Readings.{ReadingIs}
 
@@ -73,6 +73,11 @@ module _ (W : Book) (sound : Sound W) {E : Type 0} (fits : E → ℕ → Bool) w
     means : (a : Answer) (t' : List Node) → Answers W fits es t a t' → ((a ≡ none) ↔ Unread W fits es) → ReadingIs W fits es t a t'
     means a t' k n = record {
       answers = k;
+      once = λ b s m.
+          let only = (answers_once E W sound fits es t).only in
+          let mine = only a t' k in
+          let other = only b s m in
+          (other.0 ∙ sym mine.0, other.1 ∙ sym mine.1);
       none_exactly = n;
       taken = takes_one E W sound fits es;
       coherent = λ v x r s c f e. first_below B (binarised_bounded W sound) fits x v r s c f e;

@@ -16,6 +16,8 @@ reading_answer (Err f) = refused (reading_number f)
 -- over these events and the table t the call for the reading answers a and leaves t'
 pub record ReadingIs (W : Book) {E : Type 0} (fits : E → ℕ → Bool) (es : List E) (t : List Node) (a : Answer) (t' : List Node) : Type 0 where
   pub answers : Answers W fits es t a t'
+  -- no other answer and no other table would do
+  pub once : (b : Answer) (s : List Node) → Answers W fits es t b s → (b ≡ a) × (s ≡ t')
   pub none_exactly : (a ≡ none) ↔ Unread W fits es
   pub taken : TakesExactly W fits es
   -- along a chosen chain the same strict rule is the first that fits: the first that fits at x is so too at the end of the chain's first step
