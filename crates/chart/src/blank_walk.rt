@@ -11,11 +11,9 @@ ghost use Rattle.chart.specs.Blanks.{blank_nodes, AllBlank};
 
 use crate::node::Node;
 use crate::node_table::NodeTable;
+use crate::symbols::HEADS;
 use book::converted::Converted;
 use conversion::nullable::Brought;
-
-// Items below this are heads.
-const HEADS: u8 = 32;
 
 // What brought a head in, if it is nullable. No other item is.
 fn brought_head(converted: &Converted, item: u8) -> Option<Brought>
