@@ -11,7 +11,7 @@ ghost use Rattle.chart.specs.Inner.{Wrote, SameTable, blank_nodes, AllBlank};
 
 use crate::node::Node;
 use crate::node_table::NodeTable;
-use crate::nullable::HEADS;
+use crate::symbols::HEADS;
 use book::converted::Converted;
 use conversion::nullable::Brought;
 

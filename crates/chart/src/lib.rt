@@ -17,6 +17,7 @@ mod pairs;
 pub mod part;
 pub mod reading;
 mod strict;
+mod symbols;
 pub mod totals;
 mod weighed;
 mod writer;

@@ -1,5 +1,5 @@
 // The caller's table of nodes, written from its beginning.
-ghost use Rattle.std.specs.Prelude.{◌≡◌, ◌-◌, List, [], ◌∷◌, ◌++◌, length};
+ghost use Rattle.std.specs.Prelude.{◌≡◌, ◌-◌, false, List, [], ◌∷◌, ◌++◌, length};
 ghost use Rattle.grammar.specs.Answers.{answer};
 ghost use Rattle.grammar.specs.Nodes.{Node as TreeNode};
 ghost use Rattle.chart.specs.Nodes.{node_of, nodes_of};
@@ -35,8 +35,9 @@ impl<'n> NodeTable<'n> {
         }
     }
 
-    // Writes a node after the others, or notes that there is no room for it.
+    // Writes a node after the others, or notes that there is no room for it. After that no node is handed on.
     pub(crate) fn push(&mut self, node: Node)
+        requires { self.old.full ≡ false }
         ensures wrote { (t ks : List TreeNode) → Wrote t ks self.old → Wrote t (ks ++ (node_of node ∷ [])) self.new }
         ensures room { room self.new ≡ room self.old - 1 }
         ensures same { SameTable self.old self.new }

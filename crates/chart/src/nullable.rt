@@ -5,15 +5,13 @@ ghost use Rattle.conversion.specs.Views.{right_side_of};
 ghost use Rattle.chart.specs.Weights.{rules_book, NullableWeights};
 ghost use Rattle.chart.specs.Inner.{WeightsAfter, right_weight};
 
+use crate::symbols::HEADS;
 use book::converted::Converted;
 use book::rules::Rules;
 use conversion::nullable::Brought;
 use conversion::right::Right;
 use weighing::bank::Bank;
 use weighing::weighing::Weighing;
-
-// Symbols below this are heads. The book has its own constant, since that one is the limit of an offer.
-pub const HEADS: u8 = 32;
 
 // The weight of a binarised rule: a production's cost counts at its head's rule; a tail's rule and that of a pattern's own
 // symbol weigh one.

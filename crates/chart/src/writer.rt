@@ -13,13 +13,10 @@ use crate::chart::Chart;
 use crate::choice::{Choice, choose};
 use crate::node::Node;
 use crate::node_table::NodeTable;
-use crate::nullable::HEADS;
+use crate::symbols::{HEADS, TAILS};
 use book::alphabet::Alphabet;
 use conversion::chain::Dropped;
 use weighing::kinds::YesNo;
-
-// Symbols from this on are tails; those between are the patterns' own.
-const TAILS: u8 = 64;
 
 // The node of a production over so many events from a start on.
 fn node(number: u8, start: usize, count: usize) -> Node
