@@ -67,17 +67,17 @@ module _ (T : ℕ) where
 
 -- Totals
 
-totals_mean : (W : Book) → Sound W → TotalsMean W
-totals_mean W sound = record {
-  verdict = λ w. explained_by W sound letter_fits w (total_of W yes_no letter_fits w) refl;
+pub totals_mean : (W : Book) → Sound W → {E : Type 0} (fits : E → ℕ → Bool) → TotalsMean W fits
+totals_mean W sound fits = record {
+  verdict = λ w. explained_by W sound fits w (total_of W yes_no fits w) refl;
   count = λ w.
-      let v = total_of W capped_counts letter_fits w in
-      let c = counted_by W sound letter_fits w v.n v refl refl in
-      subst (CountsReadings W letter_fits 4294967295 w) c.is_total c;
+      let v = total_of W capped_counts fits w in
+      let c = counted_by W sound fits w v.n v refl refl in
+      subst (CountsReadings W fits 4294967295 w) c.is_total c;
   least = λ w.
-      let v = total_of W least_costs letter_fits w in
-      let c = least_by W sound letter_fits w v.n v refl refl in
-      subst (IsLeastCost W letter_fits 4294967295 w) c.is_total c;
+      let v = total_of W least_costs fits w in
+      let c = least_by W sound fits w v.n v refl refl in
+      subst (IsLeastCost W fits 4294967295 w) c.is_total c;
 }
 
 pub output_means : (input : List ℕ) → LineMeans input
@@ -86,5 +86,5 @@ output_means input = record {
   traces = lines_law (traces_part input);
   loads = load_means 26 [] (rules_part input) (omega arith);
   fits = tests_table (λ (p e : ℕ). p ≡ e) nat_eq bytes_tested (count_up 97 26);
-  totals = λ rules n e. totals_mean (book 26 rules) (load_admitted 26 (rules_part input) rules n (omega arith) e).sound;
+  totals = λ rules n e. totals_mean (book 26 rules) (load_admitted 26 (rules_part input) rules n (omega arith) e).sound letter_fits;
 }
