@@ -15,8 +15,8 @@
 // patterns refused 8.
 ghost use Rattle.std.specs.Prelude.{◌≡◌, ◌<◌, length, IfOk, string_bytes, codes};
 
-pub mod fault;
 mod calls;
+pub mod fault;
 mod lines;
 mod print;
 mod read;
