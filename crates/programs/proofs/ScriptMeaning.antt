@@ -57,7 +57,7 @@ module _ {P E : Type 0} (test : P → E → Bool) (s : Script P E) where
   -- where a line stands, it is printed by the events held after the calls before it
   line_printed : length s.patterns ≤ 32 → (front back : List (ChartLine E)) (l : ChartLine E) → s.chart ≡ front ++ (l ∷ back)
       → script_print test s ≡ (script_answers s ++ script_lines test s [] front) ++ (line_text (script_book s) (script_fits test s) s.weights s.nodes (script_held s front) l
-          ++ script_lines test s (held_then (script_book s) s.weights (script_held s front) l) back)
+      ++ script_lines test s (held_then (script_book s) s.weights (script_held s front) l) back)
   unfolding script_print held_events
   line_printed few front back l e =
       cond-false (ltb 32 (length s.patterns)) _ _ (le-ltb 32 (length s.patterns) few) ∙ ap (λ ls. script_answers s ++ script_lines test s [] ls) e

@@ -142,7 +142,7 @@ pub record PrintMeans {P E : Type 0} (fits : P → E → Type 0) (test : P → E
   -- what is printed for a line of the chart is that of the events held after the calls before it
   pub lines : length s.patterns ≤ 32 → (front back : List (ChartLine E)) (l : ChartLine E) → s.chart ≡ front ++ (l ∷ back)
       → script_print test s ≡ (script_answers s ++ script_lines test s [] front) ++ (line_text (script_book s) (script_fits test s) s.weights s.nodes (script_held s front) l
-          ++ script_lines test s (held_then (script_book s) s.weights (script_held s front) l) back)
+      ++ script_lines test s (held_then (script_book s) s.weights (script_held s front) l) back)
   -- whatever events are held, their totals are those of the readings by the book
   pub totals : length s.patterns ≤ 32 → TotalsMean (script_book s) (script_fits test s)
   -- and the reading is the one that is taken of them: none exactly if there is none, else its nodes, as many as the table takes
