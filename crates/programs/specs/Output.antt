@@ -54,7 +54,7 @@ abbrev pub HaveWeights : Tables → Type 0
 HaveWeights t = (vec_len t.verdicts ≡ 15360) × (vec_len t.counts ≡ 15360) × (vec_len t.costs ≡ 15360)
 
 -- the totals of a trace by the three weighings
-abbrev pub trace_totals : Book → (ℕ → ℕ → Bool) → List ℕ → Totals
+abbrev pub trace_totals : {E : Type 0} → Book → (E → ℕ → Bool) → List E → Totals
 trace_totals W fits w = record {
   verdict = record { 0 = total_of W yes_no fits w };
   count = total_of W (counts 4294967295) fits w;
@@ -96,10 +96,10 @@ Divided input rules traces = NoDivider rules
     × (((rules ≡ input) × (traces ≡ [])) ⊎ (Whole rules × (((input ≡ rules ++ (37 ∷ [])) × (traces ≡ [])) ⊎ (input ≡ rules ++ (37 ∷ (10 ∷ traces))))))
 
 -- of every trace the three totals are: whether there is a reading, how many there are, and what the cheapest costs
-pub record TotalsMean (W : Book) : Type 0 where
-  pub verdict : (w : List ℕ) → Explained W letter_fits w (total_of W yes_no letter_fits w)
-  pub count : (w : List ℕ) → CountsReadings W letter_fits 4294967295 w (total_of W (counts 4294967295) letter_fits w)
-  pub least : (w : List ℕ) → IsLeastCost W letter_fits 4294967295 w (total_of W (costs 4294967295) letter_fits w)
+pub record TotalsMean (W : Book) {E : Type 0} (fits : E → ℕ → Bool) : Type 0 where
+  pub verdict : (w : List E) → Explained W fits w (total_of W yes_no fits w)
+  pub count : (w : List E) → CountsReadings W fits 4294967295 w (total_of W (counts 4294967295) fits w)
+  pub least : (w : List E) → IsLeastCost W fits 4294967295 w (total_of W (costs 4294967295) fits w)
 
 -- what the definition means for an input
 pub record LineMeans (input : List ℕ) : Type 0 where
@@ -114,4 +114,4 @@ pub record LineMeans (input : List ℕ) : Type 0 where
   -- a pattern fits its letter
   pub fits : TestsTable (λ (p e : ℕ). p ≡ e) (count_up 97 26) letter_fits
   -- the totals are those of the readings by the rules loaded
-  pub totals : (rules : List Production) (n : ℕ) → load 26 [] (rules_part input) ≡ taken rules n → TotalsMean (book 26 rules)
+  pub totals : (rules : List Production) (n : ℕ) → load 26 [] (rules_part input) ≡ taken rules n → TotalsMean (book 26 rules) letter_fits

@@ -15,7 +15,9 @@
 // patterns refused 8.
 ghost use Rattle.std.specs.Prelude.{◌≡◌, ◌<◌, length, IfOk, string_bytes, codes};
 
+mod calls;
 pub mod fault;
+mod lines;
 mod print;
 mod read;
 mod run;
@@ -39,10 +41,10 @@ fn script_text(heap: Global, part: Part<'_>) -> Result<String, ScriptFault> {
     for line in Lines::of(part.text) {
         if let Some(word) = line.words().next() {
             if Bytes::begins_patterns(word.bytes) {
-                return run::<Bytes>(heap, &read::<Bytes>(heap, part)?);
+                return Ok(run::<Bytes>(heap, &read::<Bytes>(heap, part)?)?);
             }
             if Cards::begins_patterns(word.bytes) {
-                return run::<Cards>(heap, &read::<Cards>(heap, part)?);
+                return Ok(run::<Cards>(heap, &read::<Cards>(heap, part)?)?);
             }
             break;
         }

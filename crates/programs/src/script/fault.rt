@@ -1,6 +1,7 @@
 // Why a script is not run.
-use book::fault::TableFault;
-use replay::fault::ReplayFault;
+ghost use Rattle.std.specs.Prelude.{Some};
+ghost use Rattle.programs.specs.Faults.{cause_text, script_fault_text};
+
 use std::alloc::AllocError;
 use std::error::Error;
 use std::fmt;
@@ -21,6 +22,8 @@ pub enum Cause {
 }
 
 impl fmt::Display for Cause {
+    ghost output = { λ cause. Some (cause_text cause) };
+
     fn fmt<W: fmt::Write>(&self, f: &mut fmt::Formatter<W>) -> fmt::Result {
         let cause = match self {
             Cause::NoAlphabet => "no alphabet at the beginning",
@@ -38,19 +41,15 @@ impl fmt::Display for Cause {
 pub enum ScriptFault {
     // the line of this number, counted from 1, is malformed
     Line(usize, Cause),
-    // its table of patterns is refused
-    Table(TableFault),
-    // a replay is refused
-    Replay(ReplayFault),
     NoMemory(AllocError),
 }
 
 impl fmt::Display for ScriptFault {
+    ghost output = { script_fault_text };
+
     fn fmt<W: fmt::Write>(&self, f: &mut fmt::Formatter<W>) -> fmt::Result {
         match self {
             ScriptFault::Line(number, cause) => write!(f, "line {number}: {cause}"),
-            ScriptFault::Table(fault) => write!(f, "refused {}", fault.number()),
-            ScriptFault::Replay(fault) => write!(f, "{fault}"),
             ScriptFault::NoMemory(error) => write!(f, "{error}"),
         }
     }
@@ -61,17 +60,5 @@ impl Error for ScriptFault {}
 impl From<AllocError> for ScriptFault {
     fn from(error: AllocError) -> ScriptFault {
         ScriptFault::NoMemory(error)
-    }
-}
-
-impl From<TableFault> for ScriptFault {
-    fn from(fault: TableFault) -> ScriptFault {
-        ScriptFault::Table(fault)
-    }
-}
-
-impl From<ReplayFault> for ScriptFault {
-    fn from(fault: ReplayFault) -> ScriptFault {
-        ScriptFault::Replay(fault)
     }
 }

@@ -1,8 +1,9 @@
 // A script as it is read, line by line.
 use crate::script::fault::{Cause, ScriptFault};
+use crate::script::lines::{BookLine, ChartLine, Question, Script, Sizes};
 use crate::script::spelled::Spelled;
 use crate::script::words::{byte, cost, one_number};
-use replay::call::{BookCall, ChartCall};
+use replay::call::ChartCall;
 use std::alloc::{AllocError, Global};
 use text::lines::{Line, Lines};
 
@@ -17,59 +18,6 @@ pub const NODES: u32 = 65_536;
 pub(crate) struct Part<'t> {
     pub(crate) text: &'t [u8],
     pub(crate) first: usize,
-}
-
-// A call of the book, as a line says it.
-#[derive(Drop)]
-pub(crate) enum BookLine<'t> {
-    Offer { head: u8, items: Vec<u8>, cost: u16 },
-    Load(&'t [u8]),
-    Strike,
-}
-
-impl<'t> BookLine<'t> {
-    // The call itself.
-    pub(crate) fn call(&self) -> BookCall<'_> {
-        match self {
-            BookLine::Offer { head, items, cost } => BookCall::Offer {
-                head: *head,
-                items,
-                cost: *cost,
-            },
-            BookLine::Load(text) => BookCall::Load(text),
-            BookLine::Strike => BookCall::Strike,
-        }
-    }
-}
-
-// What is asked of a chart.
-#[derive(Clone, Copy)]
-pub(crate) enum Question {
-    Total,
-    Reading,
-}
-
-// A call of the chart, or what is asked of it.
-#[derive(Clone, Copy)]
-pub(crate) enum ChartLine<E> {
-    Call(ChartCall<E>),
-    Ask(Question),
-}
-
-// How many weights and nodes the tables have.
-#[derive(Clone, Copy)]
-pub(crate) struct Sizes {
-    pub(crate) weights: usize,
-    pub(crate) nodes: usize,
-}
-
-// What the lines say.
-#[derive(Drop)]
-pub(crate) struct Script<'t, A: Spelled> {
-    pub(crate) patterns: Vec<A::Pattern>,
-    pub(crate) book: Vec<BookLine<'t>>,
-    pub(crate) sizes: Sizes,
-    pub(crate) chart: Vec<ChartLine<A::Event>>,
 }
 
 // The offer that words say.
@@ -132,7 +80,7 @@ struct Reader<'t, A: Spelled> {
     number: usize,
     // where the rules of a load begin whose end is still to come
     rules: Option<usize>,
-    script: Script<'t, A>,
+    script: Script<'t, A::Pattern, A::Event>,
 }
 
 impl<'t, A: Spelled> Reader<'t, A> {
@@ -277,7 +225,7 @@ impl<'t, A: Spelled> Reader<'t, A> {
 pub(crate) fn read<'t, A: Spelled>(
     heap: Global,
     part: Part<'t>,
-) -> Result<Script<'t, A>, ScriptFault> {
+) -> Result<Script<'t, A::Pattern, A::Event>, ScriptFault> {
     let mut reader = Reader::<A> {
         heap,
         number: part.first,

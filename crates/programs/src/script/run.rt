@@ -1,117 +1,30 @@
 // A script as it is run: the answer to each call, and what is asked on the way. Each total and each reading is that of a replay of all calls
 // up to its line.
-use crate::script::fault::ScriptFault;
-use crate::script::print::push_reading;
-use crate::script::read::{BookLine, ChartLine, Question, Script, Sizes};
-use crate::script::spelled::Spelled;
-use crate::totals::{Totals, Verdict};
+ghost use Rattle.std.specs.Prelude.{◌≡◌, ◌++◌, ◌≤◌, [], length, map, IfOk, OnOk, string_bytes};
+ghost use Rattle.grammar.specs.Lists.{each};
+ghost use Rattle.grammar.specs.Productions.{Sound};
+ghost use Rattle.replay.specs.Calls.{call_of, chart_call_of};
+ghost use Rattle.replay.specs.Answers.{said, book_answers, chart_answers};
+ghost use Rattle.programs.specs.Calls.{calls_book, calls_symbols, calls_fits, calls_events, calls_answers};
+ghost use Rattle.programs.specs.Scripts.{a_reading};
+ghost use Rattle.programs.specs.Said.{book_line, asked, chart_line, script_said};
+ghost use Rattle.programs.specs.Printed.{answer_text, line_text, lines_text, script_print, calls_in, AllCheap, PrintMeans};
+
+use crate::script::calls::{Calls, answers, reading, totals};
+use crate::script::lines::{BookLine, ChartLine, Question, Script, Sizes};
+use crate::script::print::{push_answers, push_reading};
 use book::alphabet::Alphabet;
 use book::table::PatternTable;
 use chart::node::Node;
 use replay::answer::Answer;
 use replay::call::{BookCall, ChartCall};
-use replay::reading::{Replayed, replay_reading};
-use replay::replay::replay;
 use std::alloc::{AllocError, Global};
-use weighing::kinds::{Count, LeastCost, YesNo};
-use weighing::weighing::Weighing;
-
-// The calls up to a line.
-#[derive(Drop)]
-struct Calls<'c, A: Alphabet> {
-    patterns: &'c [A::Pattern],
-    book: &'c [BookCall<'c>],
-    chart: &'c [ChartCall<A::Event>],
-}
-
-impl<'c, A: Alphabet> Calls<'c, A> {
-    // A place for the answer to each.
-    fn places(&self, heap: Global) -> Result<Vec<Answer>, AllocError> {
-        let calls = self.book.len().saturating_add(self.chart.len());
-        vec![in heap; Answer::Struck(Ok(0)); calls]
-    }
-
-    // The total by a weighing, over a table of so many weights, and the answers.
-    fn total<W: Weighing>(
-        &self,
-        heap: Global,
-        weights: usize,
-        answers: &mut [Answer],
-    ) -> Result<W::Value, ScriptFault> {
-        let table = PatternTable::<A>::check(self.patterns)?;
-        let mut weights = vec![in heap; W::zero(); weights]?;
-        Ok(replay::<A, W>(table, self.book, self.chart, &mut weights, answers)?)
-    }
-
-    // The totals by the three weighings.
-    fn totals(&self, heap: Global, weights: usize) -> Result<Totals, ScriptFault> {
-        let mut answers = self.places(heap)?;
-        Ok(Totals {
-            verdict: Verdict(self.total::<YesNo>(heap, weights, &mut answers)?),
-            count: self.total::<Count>(heap, weights, &mut answers)?.value(),
-            least: self
-                .total::<LeastCost>(heap, weights, &mut answers)?
-                .value(),
-        })
-    }
-
-    // The reading taken, its nodes in a table.
-    fn reading(
-        &self,
-        heap: Global,
-        weights: usize,
-        nodes: &mut [Node],
-    ) -> Result<Replayed, ScriptFault> {
-        let table = PatternTable::<A>::check(self.patterns)?;
-        let mut answers = self.places(heap)?;
-        let mut weights = vec![in heap; YesNo::zero(); weights]?;
-        Ok(replay_reading::<A>(
-            table,
-            self.book,
-            self.chart,
-            &mut weights,
-            &mut answers,
-            nodes,
-        )?)
-    }
-
-    // The answers.
-    fn answers(&self, heap: Global, weights: usize) -> Result<Vec<Answer>, ScriptFault> {
-        let mut answers = self.places(heap)?;
-        self.total::<YesNo>(heap, weights, &mut answers)?;
-        Ok(answers)
-    }
-
-    // Adds what is asked after these calls.
-    fn push_asked(
-        &self,
-        heap: Global,
-        out: &mut String,
-        question: Question,
-        sizes: Sizes,
-    ) -> Result<(), ScriptFault> {
-        match question {
-            Question::Total => writeln!(out, "{}", self.totals(heap, sizes.weights)?)?,
-            Question::Reading => {
-                let node = Node {
-                    rule: 0,
-                    first: 0,
-                    count: 0,
-                };
-                let mut nodes = vec![in heap; node; sizes.nodes]?;
-                let replayed = self.reading(heap, sizes.weights, &mut nodes)?;
-                push_reading(out, replayed.reading, &nodes)?;
-            }
-        }
-        Ok(())
-    }
-}
 
 // The calls of the book that lines say.
-fn book_calls<'c>(
-    heap: Global,
-    lines: &'c [BookLine<'c>],
-) -> Result<Vec<BookCall<'c>>, AllocError> {
+fn book_calls<'c>(heap: Global, lines: &'c [BookLine<'c>]) -> Result<Vec<BookCall<'c>>, AllocError>
+    ensures says { IfOk result (λ v. map call_of v.items ≡ map book_line lines.now) }
+    ensures cheap { IfOk result (λ v. AllCheap (map call_of v.items)) }
+{
     let mut calls = Vec::new(heap);
     for line in lines {
         calls.push(line.call())?;
@@ -123,49 +36,142 @@ fn book_calls<'c>(
 fn chart_calls<E: Copy>(
     heap: Global,
     lines: &[ChartLine<E>],
-) -> Result<Vec<ChartCall<E>>, AllocError> {
+) -> Result<Vec<ChartCall<E>>, AllocError>
+    ensures { IfOk result (λ v. map chart_call_of v.items ≡ calls_in (map chart_line lines.now)) }
+{
     let mut calls = Vec::new(heap);
     for line in lines {
-        if let ChartLine::Call(call) = line {
-            calls.push(*call)?;
+        match line {
+            ChartLine::Call(call) => calls.push(*call)?,
+            ChartLine::Ask(_) => {}
         }
     }
     Ok(calls)
 }
 
-// What a script prints: a line for each answer, in the order of its lines.
-pub(crate) fn run<A: Spelled>(heap: Global, script: &Script<A>) -> Result<String, ScriptFault> {
+// Adds the reading after these calls, in a table of nodes.
+fn push_taken<A: Alphabet>(
+    heap: Global,
+    out: &mut String,
+    calls: &Calls<A::Pattern, A::Event>,
+    weights: usize,
+    nodes: &mut [Node],
+) -> Result<(), AllocError>
+    requires { Sound (calls_book calls.now) }
+    ensures { OnOk result (string_bytes out.new ≡ string_bytes out.old ++ line_text (calls_book calls.now) (calls_fits A.Alphabet.test calls.now) weights (length nodes.old) (calls_events weights calls.now) a_reading) }
+{
+    let answer = reading::<A>(heap, calls, weights, nodes)?;
+    push_reading(out, answer, nodes)
+}
+
+// Adds what is asked after these calls.
+fn push_asked<A: Alphabet>(
+    heap: Global,
+    out: &mut String,
+    calls: &Calls<A::Pattern, A::Event>,
+    question: Question,
+    sizes: Sizes,
+) -> Result<(), AllocError>
+    requires { Sound (calls_book calls.now) }
+    ensures { OnOk result (string_bytes out.new ≡ string_bytes out.old ++ line_text (calls_book calls.now) (calls_fits A.Alphabet.test calls.now) sizes.weights sizes.nodes (calls_events sizes.weights calls.now) (asked question)) }
+{
+    match question {
+        Question::Total => writeln!(out, "{}", totals::<A>(heap, calls, sizes.weights)?),
+        Question::Reading => {
+            let node = Node {
+                rule: 0,
+                first: 0,
+                count: 0,
+            };
+            let mut nodes = vec![in heap; node; sizes.nodes]?;
+            push_taken::<A>(heap, out, calls, sizes.weights, &mut nodes)
+        }
+    }
+}
+
+// Adds what the lines of the chart print: the answers of its calls, which were all made before, and what is asked on the way.
+fn push_lines<A: Alphabet>(
+    heap: Global,
+    out: &mut String,
+    calls: &Calls<A::Pattern, A::Event>,
+    lines: &[ChartLine<A::Event>],
+    answers: &[Answer],
+    sizes: Sizes,
+) -> Result<(), AllocError>
+    requires sound { Sound (calls_book calls.now) }
+    requires calls { map chart_call_of calls.now.chart.now ≡ calls_in (map chart_line lines.now) }
+    requires answers { map said answers.now ≡ chart_answers (calls_symbols calls.now) sizes.weights [] (map chart_call_of calls.now.chart.now) }
+    ensures { OnOk result (string_bytes out.new ≡ string_bytes out.old ++ lines_text (calls_book calls.now) (calls_fits A.Alphabet.test calls.now) sizes.weights sizes.nodes [] (map chart_line lines.now)) }
+{
+    let mut made = 0;
+    for line in lines {
+        match line {
+            ChartLine::Call(_) => {
+                if made < answers.len() {
+                    writeln!(out, "{}", answers[made])?;
+                    made += 1;
+                }
+            }
+            ChartLine::Ask(question) => {
+                let before = Calls {
+                    patterns: calls.patterns,
+                    book: calls.book,
+                    chart: &calls.chart[..made],
+                };
+                push_asked::<A>(heap, out, &before, *question, sizes)?;
+            }
+        }
+    }
+    Ok(())
+}
+
+// What the calls of a script are answered, and what is asked among the lines of its chart.
+fn calls_text<A: Alphabet>(
+    heap: Global,
+    calls: &Calls<A::Pattern, A::Event>,
+    lines: &[ChartLine<A::Event>],
+    sizes: Sizes,
+) -> Result<String, AllocError>
+    requires sound { Sound (calls_book calls.now) }
+    requires calls { map chart_call_of calls.now.chart.now ≡ calls_in (map chart_line lines.now) }
+    ensures { IfOk result (λ s. string_bytes s ≡ each answer_text (book_answers (length calls.now.patterns.now) [] (map call_of calls.now.book.now)) ++ lines_text (calls_book calls.now) (calls_fits A.Alphabet.test calls.now) sizes.weights sizes.nodes [] (map chart_line lines.now)) }
+{
+    let all = answers::<A>(heap, calls, sizes.weights)?;
+    let (first, others) = all.split_at(calls.book.len());
+    let mut out = String::new(heap);
+    push_answers(&mut out, first)?;
+    push_lines::<A>(heap, &mut out, calls, lines, others, sizes)?;
+    Ok(out)
+}
+
+// What a script of few enough patterns prints: a line for each answer, in the order of its lines.
+fn run_calls<A: Alphabet>(
+    heap: Global,
+    script: &Script<A::Pattern, A::Event>,
+) -> Result<String, AllocError>
+    requires { length script.now.patterns.items ≤ 32 }
+    ensures { IfOk result (λ s. string_bytes s ≡ script_print A.Alphabet.test (script_said script.now)) }
+{
     let book = book_calls(heap, &script.book)?;
     let chart = chart_calls(heap, &script.chart)?;
-    let calls = Calls::<A> {
+    let calls = Calls {
         patterns: &script.patterns,
         book: &book,
         chart: &chart,
     };
-    let answers = calls.answers(heap, script.sizes.weights)?;
-    let mut answers = answers.iter();
-    let mut out = String::new(heap);
-    for answer in answers.by_ref().take(book.len()) {
-        writeln!(out, "{answer}")?;
+    calls_text::<A>(heap, &calls, &script.chart, script.sizes)
+}
+
+// What a script prints: the answers, or the refusal of its table of patterns.
+pub(crate) fn run<A: Alphabet>(
+    heap: Global,
+    script: &Script<A::Pattern, A::Event>,
+) -> Result<String, AllocError>
+    ensures printed { IfOk result (λ s. string_bytes s ≡ script_print A.Alphabet.test (script_said script.now)) }
+    ensures means { AllCheap (script_said script.now).book → PrintMeans A.Alphabet.fits A.Alphabet.test (script_said script.now) }
+{
+    if let Err(fault) = PatternTable::<A>::check(&script.patterns) {
+        return format!(in heap; "refused {}\n", fault.number());
     }
-    let mut made = 0usize;
-    for line in &script.chart {
-        match line {
-            ChartLine::Call(_) => {
-                made = made.saturating_add(1);
-                if let Some(answer) = answers.next() {
-                    writeln!(out, "{answer}")?;
-                }
-            }
-            ChartLine::Ask(question) => {
-                let calls = Calls::<A> {
-                    patterns: &script.patterns,
-                    book: &book,
-                    chart: chart.get(..made).unwrap_or(&[]),
-                };
-                calls.push_asked(heap, &mut out, *question, script.sizes)?;
-            }
-        }
-    }
-    Ok(out)
+    run_calls::<A>(heap, script)
 }
