@@ -1,5 +1,5 @@
 -- What books hold.
-use Rattle.std.specs.Prelude.{◌≡◌, ℕ, suc, ◌<◌, ◌≤◌, Bool, true, false, List, map, length, Some, None, Option, MatchOption, slice_index_or}
+use Rattle.std.specs.Prelude.{◌≡◌, ℕ, suc, ◌<◌, ◌≤◌, Bool, true, false, List, map, length, Option, MatchOption, slice_index_or}
 use Rattle.grammar.specs.{Productions.Production, Productions.Book, Binarise.binarised, Nullable.nullable_after, Strict.StrictFormRule, Strict.strict_rules}
 use Rattle.grammar.specs.Chains.{ChainStep, UnitChain}
 use Rattle.grammar.specs.Promises.{Rounds, ChosenRule, TheChosenChain, TheStrictList, StrictLanguage}

@@ -1,5 +1,5 @@
 -- The answer of the call for the reading, by the nodes of the derivation taken.
-use Rattle.std.proofs.Common.{◌≡◌, ◌↔◌, inl, inr, ℕ, ◌<◌, Bool, true, false, cond, List, [], ◌∷◌, length, take, sym, refl, ap, ◌∙◌, subst, true≢false, arith}
+use Rattle.std.proofs.Common.{◌≡◌, ◌↔◌, inl, inr, ℕ, ◌<◌, Bool, true, false, cond, List, [], ◌∷◌, length, sym, refl, ap, ◌∙◌, subst, true≢false, arith}
 use Rattle.std.proofs.lemmas.List.{take_all}
 use Rattle.std.proofs.lemmas.Bool.{cases_Bool}
 use Rattle.grammar.specs.Lists.{span}
@@ -7,12 +7,11 @@ use Rattle.grammar.specs.Productions.{Book, Sound}
 use Rattle.grammar.specs.Binarised.{Binarised, Tree}
 use Rattle.grammar.specs.Binarise.{binarise, binarised}
 use Rattle.grammar.specs.Nullable.{nullable, nullable_tree}
-use Rattle.grammar.specs.Readings.{Reading, Reads}
+use Rattle.grammar.specs.Readings.{Reading}
 use Rattle.grammar.specs.PlainReadings.{Unread}
 use Rattle.grammar.specs.Nodes.{Node, nodes, tree_nodes}
 use Rattle.grammar.specs.Taken.{Takes, takes_terminal, takes_binary}
-use Rattle.grammar.specs.Answers.{Taken, of_nothing, of_events, filled, limit, Answer, none, number, refused, answer, Answers, is_none, is_read}
-use Rattle.grammar.specs.Promises.{NodeList, TakesExactly}
+use Rattle.grammar.specs.Answers.{Taken, of_nothing, of_events, filled, Answer, none, number, refused, answer, Answers, is_none, is_read}
 use Rattle.grammar.specs.Weighings.{yes_no}
 use Rattle.grammar.specs.Cells.{tree_weight}
 use Rattle.grammar.specs.Weights.{binarised_weight, total_of}
@@ -23,7 +22,6 @@ use Rattle.grammar.proofs.Tables.{tables}
 use Rattle.grammar.proofs.BinarisedRules.{binarised_bounded}
 use Rattle.grammar.proofs.Coherent.{first_below}
 use Rattle.grammar.proofs.Totals.{takes_one, answers_once}
-use Rattle.chart.specs.Totals.{Explained}
 use Rattle.chart.specs.Readings.{ReadingIs}
 
 -- whether an answer is none

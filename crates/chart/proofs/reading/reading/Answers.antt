@@ -1,7 +1,7 @@
-use Rattle.std.proofs.Common.{rules, ◌≡◌, ◌+◌, ◌<◌, ◌≤◌, List, length, sym, ap, ◌∙◌, subst, true, false, arith, inl, []}
+use Rattle.std.proofs.Common.{rules, ◌≡◌, ◌<◌, length, sym, ap, ◌∙◌, subst, true, false, arith, inl, []}
 use Rattle.grammar.specs.Binarise.{binarise, binarised}
 use Rattle.grammar.specs.Nullable.{nullable, nullable_tree}
-use Rattle.grammar.specs.Nodes.{nodes, tree_nodes}
+use Rattle.grammar.specs.Nodes.{tree_nodes}
 use Rattle.grammar.specs.Taken.{Takes}
 use Rattle.grammar.proofs.Totals.{takes_one}
 use Rattle.chart.specs.Events.{chart_book, chart_fits}
