@@ -32,6 +32,29 @@ said (Fed (Err f)) = refused (feed_number f)
 said (Withdrawn (Ok n)) = says n
 said (Withdrawn (Err f)) = refused (withdraw_number f)
 
+-- the kinds of calls
+pub data Kind : Type 0 where
+  offering loading striking feeding withdrawing : Kind
+
+-- of which kind of call an answer is
+abbrev pub answer_kind : Answer → Kind
+answer_kind (Offered r) = offering
+answer_kind (Loaded r) = loading
+answer_kind (Struck r) = striking
+answer_kind (Fed r) = feeding
+answer_kind (Withdrawn r) = withdrawing
+
+-- of which kind a call on a book is
+abbrev pub book_kind : Call → Kind
+book_kind (an_offer head items cost) = offering
+book_kind (a_load text) = loading
+book_kind a_strike = striking
+
+-- and one on a chart
+abbrev pub chart_kind : {E : Type 0} → ChartCall E → Kind
+chart_kind (a_feed e) = feeding
+chart_kind (a_withdraw k) = withdrawing
+
 -- the same in words: a number stands by itself, a refusal after a word
 abbrev pub saying_text : Saying → List ℕ
 saying_text (says n) = decimal n

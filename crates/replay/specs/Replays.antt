@@ -9,7 +9,7 @@ use Rattle.chart.specs.Runs.{held_events}
 use Rattle.replay.specs.declared.call.BookCall.{BookCall}
 use Rattle.replay.specs.declared.call.ChartCall.{ChartCall}
 use Rattle.replay.specs.Calls.{call_of, chart_call_of}
-use Rattle.replay.specs.Answers.{Saying, book_answers, chart_answers}
+use Rattle.replay.specs.Answers.{Saying, book_answers, chart_answers, Kind, book_kind, chart_kind}
 
 -- the book of the rules held after its calls
 abbrev pub replayed_book : {P : Type 0} → List P → List BookCall → Book
@@ -28,3 +28,7 @@ abbrev pub replayed_answers : {P E : Type 0} → List P → List BookCall → �
 replayed_answers patterns book_calls m chart_calls =
     book_answers (length patterns) [] (map call_of book_calls)
     ++ chart_answers (replayed_symbols patterns book_calls) m [] (map chart_call_of chart_calls)
+
+-- of which kinds the calls are
+abbrev pub replayed_kinds : {E : Type 0} → List BookCall → List (ChartCall E) → List Kind
+replayed_kinds book_calls chart_calls = map book_kind (map call_of book_calls) ++ map chart_kind (map chart_call_of chart_calls)

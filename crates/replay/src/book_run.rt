@@ -3,7 +3,7 @@ ghost use Rattle.std.specs.Prelude.{◌≡◌, [], length, map, fold};
 ghost use Rattle.book.specs.Books.{open_held, closed_held};
 ghost use Rattle.book.specs.Runs.{after, held_after};
 ghost use Rattle.replay.specs.Calls.{call_of};
-ghost use Rattle.replay.specs.Answers.{said, book_answer, book_answers};
+ghost use Rattle.replay.specs.Answers.{said, book_answer, book_answers, answer_kind, book_kind};
 
 use crate::answer::Answer;
 use crate::call::BookCall;
@@ -14,6 +14,7 @@ use book::table::PatternTable;
 // One call, with its answer.
 fn call_book<A: Alphabet>(book: &mut OpenBook<A>, call: &BookCall) -> Answer
     ensures says { said result ≡ book_answer (length book.old.table.patterns.now) (open_held book.old) (call_of call.now) }
+    ensures kind { answer_kind result ≡ book_kind (call_of call.now) }
     ensures after { open_held book.new ≡ after (length book.old.table.patterns.now) (open_held book.old) (call_of call.now) }
     ensures table { book.new.table ≡ book.old.table }
 {
@@ -28,6 +29,7 @@ fn call_book<A: Alphabet>(book: &mut OpenBook<A>, call: &BookCall) -> Answer
 fn call_all<A: Alphabet>(book: &mut OpenBook<A>, calls: &[BookCall], answers: &mut [Answer])
     requires { length answers.old ≡ length calls.now }
     ensures says { map said answers.new ≡ book_answers (length book.old.table.patterns.now) (open_held book.old) (map call_of calls.now) }
+    ensures kinds { map answer_kind answers.new ≡ map book_kind (map call_of calls.now) }
     ensures after { open_held book.new ≡ fold (after (length book.old.table.patterns.now)) (open_held book.old) (map call_of calls.now) }
     ensures table { book.new.table ≡ book.old.table }
 {
@@ -44,6 +46,7 @@ pub(crate) fn run_book<'p, A: Alphabet>(
 ) -> ClosedBook<'p, A>
     requires { length answers.old ≡ length calls.now }
     ensures says { map said answers.new ≡ book_answers (length table.entry.patterns.now) [] (map call_of calls.now) }
+    ensures kinds { map answer_kind answers.new ≡ map book_kind (map call_of calls.now) }
     ensures held { closed_held result ≡ held_after (length table.entry.patterns.now) (map call_of calls.now) }
     ensures table { result.table.patterns.now ≡ table.entry.patterns.now }
 {

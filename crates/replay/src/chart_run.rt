@@ -6,7 +6,7 @@ ghost use Rattle.chart.specs.Events.{chart_symbols};
 ghost use Rattle.chart.specs.Table.{column_place, SameOutside};
 ghost use Rattle.chart.specs.Runs.{HoldsAfter, RunsOn};
 ghost use Rattle.replay.specs.Calls.{chart_call_of};
-ghost use Rattle.replay.specs.Answers.{said, chart_answer, chart_answers};
+ghost use Rattle.replay.specs.Answers.{said, chart_answer, chart_answers, answer_kind, chart_kind};
 ghost use Rattle.replay.specs.Leavings.{Leaves};
 
 use crate::answer::Answer;
@@ -22,6 +22,7 @@ fn call_chart<A: Alphabet, W: Weighing>(
     call: &ChartCall<A::Event>,
 ) -> Answer
     ensures says { said result ≡ chart_answer (chart_symbols chart.old) (length chart.old.weights.now) chart.old.events (chart_call_of call.now) }
+    ensures kind { answer_kind result ≡ chart_kind (chart_call_of call.now) }
     ensures runs { RunsOn W.Weighing.ops A.Alphabet.test (chart_call_of call.now) chart.old chart.new }
     ensures outside { SameOutside W.Weighing.ops.zero (column_place (chart_symbols chart.old) (chart.old.events + 1)) (column_place (chart_symbols chart.old) (chart.new.events + 1)) chart.old.weights.now chart.new.weights.now }
     ensures long { length chart.new.weights.now ≡ length chart.old.weights.now }
@@ -43,6 +44,7 @@ pub(crate) fn run_chart<'b, 'p, 't, A: Alphabet, W: Weighing>(
 ) -> Chart<'b, 'p, 't, A, W>
     requires { length answers.old ≡ length calls.now }
     ensures says { map said answers.new ≡ chart_answers (binarised (closed_book book.now)).symbols (length weights.old) [] (map chart_call_of calls.now) }
+    ensures kinds { map answer_kind answers.new ≡ map chart_kind (map chart_call_of calls.now) }
     ensures holds { HoldsAfter W.Weighing.ops A.Alphabet.test result (map chart_call_of calls.now) }
     ensures leaves { Leaves (closed_book book.now) W.Weighing.ops (closed_fits A.Alphabet.test book.now) (map chart_call_of calls.now) weights.old result.weights.now }
     ensures long { length result.weights.now ≡ length weights.old }

@@ -6,10 +6,10 @@ ghost use Rattle.chart.specs.Charts.{HoldsChart};
 ghost use Rattle.chart.specs.Totals.{Explained};
 ghost use Rattle.chart.specs.Nodes.{nodes_of};
 ghost use Rattle.chart.specs.Readings.{reading_answer, ReadingIs};
-ghost use Rattle.replay.specs.Answers.{said};
+ghost use Rattle.replay.specs.Answers.{said, answer_kind};
 ghost use Rattle.replay.specs.Calls.{chart_call_of};
 ghost use Rattle.replay.specs.Leavings.{Leaves};
-ghost use Rattle.replay.specs.Replays.{replayed_book, replayed_events, replayed_answers};
+ghost use Rattle.replay.specs.Replays.{replayed_book, replayed_events, replayed_answers, replayed_kinds};
 
 use crate::answer::Answer;
 use crate::book_run::run_book;
@@ -46,6 +46,7 @@ pub fn replay_reading<A: Alphabet>(
     ensures chart { IfOk result (λ _. HoldsChart (replayed_book table.entry.patterns.now book_calls.now) yes_no (table_fits A.Alphabet.test table.entry.patterns.now) (replayed_events table.entry.patterns.now book_calls.now (length weights.old) chart_calls.now) weights.new) }
     ensures leaves { IfOk result (λ _. Leaves (replayed_book table.entry.patterns.now book_calls.now) yes_no (table_fits A.Alphabet.test table.entry.patterns.now) (map chart_call_of chart_calls.now) weights.old weights.new) }
     ensures answers { IfOk result (λ _. map said answers.new ≡ replayed_answers table.entry.patterns.now book_calls.now (length weights.old) chart_calls.now) }
+    ensures kinds { IfOk result (λ _. map answer_kind answers.new ≡ replayed_kinds book_calls.now chart_calls.now) }
     ensures refused { IsErr result ↔ (length answers.old ≢ length book_calls.now + length chart_calls.now) }
     ensures stands { IsErr result → (answers.new ≡ answers.old) × (weights.new ≡ weights.old) × (nodes.new ≡ nodes.old) }
     ensures fits { TestsTable A.Alphabet.fits table.entry.patterns.now (table_fits A.Alphabet.test table.entry.patterns.now) }

@@ -10,5 +10,5 @@ loop-place-preserved g c =
     let m = c.loop-place.invariant in
     let room : k < length c.loop-place.answers = omega arith in
     let more : BookMade (length was.table.patterns.now) (open_held was) c.args.calls.now (k + 1) (set c.loop-place.answers k c.call_book.result) (open_held c.call_book.new.book) =
-    book_more _ _ _ _ _ _ _ _ _ _ (ap (λ t. length t.patterns.now) m.1) m.0 c.loop-place-test.true room c.call_book.ensures.says c.call_book.ensures.after in
+    book_more _ _ _ _ _ _ _ _ _ _ (ap (λ t. length t.patterns.now) m.1) m.0 c.loop-place-test.true room c.call_book.ensures.says c.call_book.ensures.kind c.call_book.ensures.after in
     (search more, c.call_book.ensures.table ∙ m.1)

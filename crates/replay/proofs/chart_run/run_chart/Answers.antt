@@ -17,7 +17,7 @@ loop-place-preserved g c =
     let made = c.call_chart.ensures in
     let room : k < length c.loop-place.answers = omega arith in
     let more : ChartMade M test (binarised (closed_book c.args.book.now)).symbols (length c.args.weights.now) c.args.calls.now (k + 1) (set c.loop-place.answers k c.call_chart.result) c.call_chart.new.chart =
-    chart_more M test _ _ _ _ _ _ _ _ _ _ m.0 c.loop-place-test.true room (sym c.index-calls-place.is) made.says made.runs made.long made.book in
+    chart_more M test _ _ _ _ _ _ _ _ _ _ m.0 c.loop-place-test.true room (sym c.index-calls-place.is) made.says made.kind made.runs made.long made.book in
     let leaves = turn_leaves M test c.args.book.now c.args.calls.now k c.args.weights.now _ _ _ _ _ _ _ m.0 more c.loop-place-test.true (sym c.index-calls-place.is) m.2 made.book made.outside m.1 in
     (search more, search leaves, ap (λ b. b.now) made.book ∙ m.2, made.same ∙ m.3)
 
