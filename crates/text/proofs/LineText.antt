@@ -9,7 +9,7 @@ use Rattle.grammar.specs.Productions.{Production}
 use Rattle.grammar.proofs.Lists.{map_mem, mem_append}
 use Rattle.text.specs.Kinds.{Kind, arrow, blank, head, pattern, cost, unknown, lettered, kind}
 use Rattle.text.specs.Outcomes.{kinds, item_kind, right_kinds, Writable, front_kinds, word_text, spaced, line_text, Says}
-use Rattle.text.specs.Numbers.{is_digit, is_numeral, decimal}
+use Rattle.text.specs.Numbers.{is_digit, is_numeral, said_number}
 use Rattle.text.proofs.Short.{decimal_after, all_digits, arrow_text, blank_text}
 use Rattle.text.specs.Words.{piece, ends_line, parts, words, AllAre}
 use Rattle.text.proofs.Spelled.{kind_arrow, kind_blank}
@@ -34,8 +34,8 @@ decimal_numeral n h = at (digits_of n) refl (digits_decimal own n h)
         (cases_lt n 1)
 
 -- a letter before a number is of its kind
-letter_kind : (a n : ℕ) → n < 2 ^ 64 → kind (a ∷ digits_of n) ≡ cond (is_numeral (digits_of n)) (lettered a (decimal (digits_of n))) unknown → kind (a ∷ digits_of n) ≡ lettered a n
-letter_kind a n h e = e ∙ cond-true (is_numeral (digits_of n)) (lettered a (decimal (digits_of n))) unknown (decimal_numeral n h) ∙ ap (lettered a) (digits_value-decimal own n h)
+letter_kind : (a n : ℕ) → n < 2 ^ 64 → kind (a ∷ digits_of n) ≡ cond (is_numeral (digits_of n)) (lettered a (said_number (digits_of n))) unknown → kind (a ∷ digits_of n) ≡ lettered a n
+letter_kind a n h e = e ∙ cond-true (is_numeral (digits_of n)) (lettered a (said_number (digits_of n))) unknown (decimal_numeral n h) ∙ ap (lettered a) (digits_value-decimal own n h)
 
 -- a kind that can be written
 abbrev PlainKind : Kind → Type 0

@@ -8,7 +8,7 @@ use Rattle.grammar.specs.Lists.{same_numbers}
 use Rattle.text.specs.Kinds.{Kind, arrow, blank, head, pattern, cost, unknown, lettered as by_letter, spelled as by_spelling, kind, word_of, kind_of, Spelled, OfKind, Sound}
 use Rattle.text.specs.declared.token.Token.{Token}
 use Rattle.text.specs.declared.token.Token.TheVariants.{Arrow, Blank, Head, Pattern, Cost, Unknown}
-use Rattle.text.specs.Numbers.{is_numeral, decimal}
+use Rattle.text.specs.Numbers.{is_numeral, said_number}
 use Rattle.text.proofs.Short.{all_digits, arrow_text, blank_text}
 
 -- a letter before a number
@@ -86,19 +86,19 @@ of_kind w = record { is_kind = is; known = by_arrow (cases_Bool (same_numbers w 
     is : (k : Kind) → Spelled w k → kind w ≡ k
     is arrow e = kind_arrow w e
     is blank e = kind_blank w e
-    is (head n) (d, num, val, e) = ap kind e ∙ cond-true (is_numeral d) (head (decimal d)) unknown num ∙ ap head val
-    is (pattern n) (d, num, val, e) = ap kind e ∙ cond-true (is_numeral d) (pattern (decimal d)) unknown num ∙ ap pattern val
-    is (cost n) (d, num, val, e) = ap kind e ∙ cond-true (is_numeral d) (cost (decimal d)) unknown num ∙ ap cost val
+    is (head n) (d, num, val, e) = ap kind e ∙ cond-true (is_numeral d) (head (said_number d)) unknown num ∙ ap head val
+    is (pattern n) (d, num, val, e) = ap kind e ∙ cond-true (is_numeral d) (pattern (said_number d)) unknown num ∙ ap pattern val
+    is (cost n) (d, num, val, e) = ap kind e ∙ cond-true (is_numeral d) (cost (said_number d)) unknown num ∙ ap cost val
     is unknown e = absurd e
 
-    letter : (a : ℕ) (d : List ℕ) → is_numeral d ≡ true → w ≡ a ∷ d → (by_letter a (decimal d) ≡ unknown) ⊎ Spelled w (by_letter a (decimal d))
+    letter : (a : ℕ) (d : List ℕ) → is_numeral d ≡ true → w ≡ a ∷ d → (by_letter a (said_number d) ≡ unknown) ⊎ Spelled w (by_letter a (said_number d))
     letter a d num e = elim (cases_eq a 72) [
-      | inl h ↦ inr (subst (λ z. Spelled w (by_letter z (decimal d))) (sym h) (d, num, refl, e ∙ ap (λ z. z ∷ d) h))
+      | inl h ↦ inr (subst (λ z. Spelled w (by_letter z (said_number d))) (sym h) (d, num, refl, e ∙ ap (λ z. z ∷ d) h))
       | inr h ↦ elim (cases_eq a 80) [
-        | inl p ↦ inr (subst (λ z. Spelled w (by_letter z (decimal d))) (sym p) (d, num, refl, e ∙ ap (λ z. z ∷ d) p))
+        | inl p ↦ inr (subst (λ z. Spelled w (by_letter z (said_number d))) (sym p) (d, num, refl, e ∙ ap (λ z. z ∷ d) p))
         | inr p ↦ elim (cases_eq a 35) [
-          | inl c ↦ inr (subst (λ z. Spelled w (by_letter z (decimal d))) (sym c) (d, num, refl, e ∙ ap (λ z. z ∷ d) c))
-          | inr c ↦ inl (other_letter a (decimal d) h p c)
+          | inl c ↦ inr (subst (λ z. Spelled w (by_letter z (said_number d))) (sym c) (d, num, refl, e ∙ ap (λ z. z ∷ d) c))
+          | inr c ↦ inl (other_letter a (said_number d) h p c)
         ]
       ]
     ]
@@ -106,8 +106,8 @@ of_kind w = record { is_kind = is; known = by_arrow (cases_Bool (same_numbers w 
     rest : (v : List ℕ) → w ≡ v → (by_spelling v ≡ unknown) ⊎ Spelled w (by_spelling v)
     rest [] e = inl refl
     rest (a ∷ d) e = elim (cases_Bool (is_numeral d)) [
-      | inl t ↦ subst (λ (k : Kind). (k ≡ unknown) ⊎ Spelled w k) (sym (cond-true (is_numeral d) (by_letter a (decimal d)) unknown t)) (letter a d t e)
-      | inr f ↦ inl (cond-false (is_numeral d) (by_letter a (decimal d)) unknown f)
+      | inl t ↦ subst (λ (k : Kind). (k ≡ unknown) ⊎ Spelled w k) (sym (cond-true (is_numeral d) (by_letter a (said_number d)) unknown t)) (letter a d t e)
+      | inr f ↦ inl (cond-false (is_numeral d) (by_letter a (said_number d)) unknown f)
     ]
 
     by_arrow : ((same_numbers w arrow_text ≡ true) ⊎ (same_numbers w arrow_text ≡ false)) → ((same_numbers w blank_text ≡ true) ⊎ (same_numbers w blank_text ≡ false)) → (kind w ≡ unknown) ⊎ Spelled w (kind w)
@@ -129,9 +129,9 @@ spelled_known w unknown e = absurd e
 pub sound_kind : (t : Token) → FitsWord t → Sound t
 sound_kind (Arrow w at) e = kind_arrow w.now e
 sound_kind (Blank w at) e = kind_blank w.now e
-sound_kind (Head w at) (d, num, e) = (of_kind w.now).is_kind (head (decimal d)) (d, num, refl, e) ∙ ap (λ v. head (decimal (drop 1 v))) (sym e)
-sound_kind (Pattern w at) (d, num, e) = (of_kind w.now).is_kind (pattern (decimal d)) (d, num, refl, e) ∙ ap (λ v. pattern (decimal (drop 1 v))) (sym e)
-sound_kind (Cost w at) (d, num, e) = (of_kind w.now).is_kind (cost (decimal d)) (d, num, refl, e) ∙ ap (λ v. cost (decimal (drop 1 v))) (sym e)
+sound_kind (Head w at) (d, num, e) = (of_kind w.now).is_kind (head (said_number d)) (d, num, refl, e) ∙ ap (λ v. head (said_number (drop 1 v))) (sym e)
+sound_kind (Pattern w at) (d, num, e) = (of_kind w.now).is_kind (pattern (said_number d)) (d, num, refl, e) ∙ ap (λ v. pattern (said_number (drop 1 v))) (sym e)
+sound_kind (Cost w at) (d, num, e) = (of_kind w.now).is_kind (cost (said_number d)) (d, num, refl, e) ∙ ap (λ v. cost (said_number (drop 1 v))) (sym e)
 sound_kind (Unknown w at) other = ⊎_elim (λ (u : kind w.now ≡ unknown). u) (λ (s : Spelled w.now (kind w.now)). absurd (other (spelled_known w.now (kind w.now) s))) (of_kind w.now).known
 
 -- Words with a number

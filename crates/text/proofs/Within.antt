@@ -4,7 +4,7 @@ use Rattle.std.proofs.lemmas.Bool.{both_ways, cond-true, lt-ltb}
 use Rattle.grammar.specs.Lists.{Mem}
 use Rattle.grammar.proofs.Lists.{mem_right, those_mem}
 use Rattle.text.specs.Kinds.{Kind, arrow, blank, head, pattern, cost, unknown, kind, Spelled}
-use Rattle.text.specs.Numbers.{is_numeral, decimal}
+use Rattle.text.specs.Numbers.{is_numeral, said_number}
 use Rattle.text.specs.Outcomes.{Refused, word_refused, too_short, fault, refusal_of, line, Means, OfDigits}
 use Rattle.text.specs.Words.{Piece, pieces, parts, some_byte, words, Cut}
 use Rattle.text.specs.Words.Cut.{last, next}
@@ -59,9 +59,9 @@ zero_is_none a c cs d l num e = both_ways _ refl (ap (λ v. is_numeral (drop 1 v
 
 pub of_digits : (d : List ℕ) → OfDigits d
 of_digits d = record {
-  head_over = λ t o. ap refusal_of ((of_kind (72 ∷ d)).is_kind (head (decimal d)) (d, t, refl, refl)) ∙ cond-true (ltb 31 (decimal d)) 21 22 (lt-ltb 31 (decimal d) o);
-  pattern_over = λ t o. ap refusal_of ((of_kind (80 ∷ d)).is_kind (pattern (decimal d)) (d, t, refl, refl)) ∙ cond-true (ltb 31 (decimal d)) 21 22 (lt-ltb 31 (decimal d) o);
-  cost_over = λ t o. ap refusal_of ((of_kind (35 ∷ d)).is_kind (cost (decimal d)) (d, t, refl, refl)) ∙ cond-true (ltb 65535 (decimal d)) 21 22 (lt-ltb 65535 (decimal d) o);
+  head_over = λ t o. ap refusal_of ((of_kind (72 ∷ d)).is_kind (head (said_number d)) (d, t, refl, refl)) ∙ cond-true (ltb 31 (said_number d)) 21 22 (lt-ltb 31 (said_number d) o);
+  pattern_over = λ t o. ap refusal_of ((of_kind (80 ∷ d)).is_kind (pattern (said_number d)) (d, t, refl, refl)) ∙ cond-true (ltb 31 (said_number d)) 21 22 (lt-ltb 31 (said_number d) o);
+  cost_over = λ t o. ap refusal_of ((of_kind (35 ∷ d)).is_kind (cost (said_number d)) (d, t, refl, refl)) ∙ cond-true (ltb 65535 (said_number d)) 21 22 (lt-ltb 65535 (said_number d) o);
   zero_first = λ a s. ap refusal_of (zero_unknown a d s);
 }
   where

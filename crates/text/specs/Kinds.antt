@@ -1,7 +1,7 @@
 -- What a word is.
 use Rattle.std.specs.Prelude.{◌≡◌, ℕ, true, cond, ◌⊎◌, List, [], ◌∷◌, drop, codes, ◌==◌}
 use Rattle.grammar.specs.Lists.{same_numbers}
-use Rattle.text.specs.Numbers.{is_numeral, decimal}
+use Rattle.text.specs.Numbers.{is_numeral, said_number}
 use Rattle.text.specs.declared.token.Token.{Token}
 use Rattle.text.specs.declared.token.Token.TheVariants.{Arrow, Blank, Head, Pattern, Cost, Unknown}
 
@@ -21,7 +21,7 @@ lettered a n = cond (a == 72) (head n) (cond (a == 80) (pattern n) (cond (a == 3
 -- what a word that has no fixed spelling is: a letter before a number, or unknown
 abbrev pub spelled : List ℕ → Kind
 spelled [] = unknown
-spelled (a ∷ ds) = cond (is_numeral ds) (lettered a (decimal ds)) unknown
+spelled (a ∷ ds) = cond (is_numeral ds) (lettered a (said_number ds)) unknown
 
 -- what a word is
 unfoldable pub kind : List ℕ → Kind
@@ -31,9 +31,9 @@ kind w = cond (same_numbers w (codes "->")) arrow (cond (same_numbers w (codes "
 abbrev pub Spelled : List ℕ → Kind → Type 0
 Spelled w arrow = w ≡ codes "->"
 Spelled w blank = w ≡ codes "blank"
-Spelled w (head n) = (d : List ℕ) × (is_numeral d ≡ true) × (decimal d ≡ n) × (w ≡ 72 ∷ d)
-Spelled w (pattern n) = (d : List ℕ) × (is_numeral d ≡ true) × (decimal d ≡ n) × (w ≡ 80 ∷ d)
-Spelled w (cost n) = (d : List ℕ) × (is_numeral d ≡ true) × (decimal d ≡ n) × (w ≡ 35 ∷ d)
+Spelled w (head n) = (d : List ℕ) × (is_numeral d ≡ true) × (said_number d ≡ n) × (w ≡ 72 ∷ d)
+Spelled w (pattern n) = (d : List ℕ) × (is_numeral d ≡ true) × (said_number d ≡ n) × (w ≡ 80 ∷ d)
+Spelled w (cost n) = (d : List ℕ) × (is_numeral d ≡ true) × (said_number d ≡ n) × (w ≡ 35 ∷ d)
 Spelled w unknown = ⊥
 
 -- a word that is spelled as some kind is of that kind, and every other word is unknown
@@ -61,9 +61,9 @@ place_of (Unknown w at) = at
 abbrev pub kind_of : Token → Kind
 kind_of (Arrow w at) = arrow
 kind_of (Blank w at) = blank
-kind_of (Head w at) = head (decimal (drop 1 w.now))
-kind_of (Pattern w at) = pattern (decimal (drop 1 w.now))
-kind_of (Cost w at) = cost (decimal (drop 1 w.now))
+kind_of (Head w at) = head (said_number (drop 1 w.now))
+kind_of (Pattern w at) = pattern (said_number (drop 1 w.now))
+kind_of (Cost w at) = cost (said_number (drop 1 w.now))
 kind_of (Unknown w at) = unknown
 
 -- the word is of the token's kind

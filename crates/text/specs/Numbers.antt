@@ -12,5 +12,5 @@ is_numeral (b ∷ []) = is_digit b
 is_numeral (b ∷ (c ∷ cs)) = not (b == 48) && list_all is_digit (b ∷ (c ∷ cs))
 
 -- the number that digits say in base ten
-abbrev pub decimal : List ℕ → ℕ
-decimal ds = fold (λ n d. n * 10 + (d - 48)) 0 ds
+abbrev pub said_number : List ℕ → ℕ
+said_number ds = fold (λ n d. n * 10 + (d - 48)) 0 ds

@@ -3,7 +3,7 @@ use Rattle.std.specs.Prelude.{◌≡◌, ℕ, ◌+◌, ◌-◌, ◌<◌, ◌≤�
 use Rattle.std.specs.Option.{option_map_or}
 use Rattle.grammar.specs.{Lists.Mem, Lists.each, Productions.Production}
 pub use Rattle.grammar.specs.Productions.{written}
-use Rattle.text.specs.{Faults.line_fault_number, Faults.line_fault_place, Numbers.is_numeral, Numbers.decimal as decimal_of}
+use Rattle.text.specs.{Faults.line_fault_number, Faults.line_fault_place, Numbers.is_numeral, Numbers.said_number}
 use Rattle.text.specs.Kinds.{Kind, arrow, blank, head, pattern, cost, unknown, kind, word_of, place_of}
 use Rattle.text.specs.Words.{Piece, piece}
 use Rattle.text.specs.declared.{fault.LineFault.LineFault, rule_line.RuleLine.RuleLine, token.Token.Token}
@@ -121,9 +121,9 @@ Means end ws (fault n at) = Refused end ws n at
 
 -- a word with a number of any length: over its limit it meets 21; with a leading zero before more it is unknown and meets 20
 pub record OfDigits (d : List ℕ) : Type 0 where
-  pub head_over : is_numeral d ≡ true → 31 < decimal_of d → refusal_of (kind (72 ∷ d)) ≡ 21
-  pub pattern_over : is_numeral d ≡ true → 31 < decimal_of d → refusal_of (kind (80 ∷ d)) ≡ 21
-  pub cost_over : is_numeral d ≡ true → 65535 < decimal_of d → refusal_of (kind (35 ∷ d)) ≡ 21
+  pub head_over : is_numeral d ≡ true → 31 < said_number d → refusal_of (kind (72 ∷ d)) ≡ 21
+  pub pattern_over : is_numeral d ≡ true → 31 < said_number d → refusal_of (kind (80 ∷ d)) ≡ 21
+  pub cost_over : is_numeral d ≡ true → 65535 < said_number d → refusal_of (kind (35 ∷ d)) ≡ 21
   pub zero_first : (a : ℕ) → 0 < length d → refusal_of (kind (a ∷ (48 ∷ d))) ≡ 20
 
 -- how a word of that kind is written

@@ -1,6 +1,6 @@
 ghost use Rattle.std.specs.Prelude.{◌≡◌, ◌<◌, ◌≤◌, true, MatchOption};
 ghost use Rattle.std.specs.List.{list_all};
-ghost use Rattle.text.specs.Numbers.{is_digit, is_numeral, decimal};
+ghost use Rattle.text.specs.Numbers.{is_digit, is_numeral, said_number};
 
 // Whether every byte is a digit.
 fn all_digits(s: &[u8]) -> bool
@@ -24,7 +24,7 @@ pub(crate) fn is_numeral(s: &[u8]) -> bool
 // The number that digits say, or nothing where it is over a limit.
 pub fn number(digits: &[u8], limit: u32) -> Option<u32>
     requires { list_all is_digit digits.now ≡ true }
-    ensures { MatchOption result (limit < decimal digits.now) (λ n. (n ≡ decimal digits.now) × (n ≤ limit)) }
+    ensures { MatchOption result (limit < said_number digits.now) (λ n. (n ≡ said_number digits.now) × (n ≤ limit)) }
 {
     let mut n = 0u64;
     for d in digits {

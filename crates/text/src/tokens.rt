@@ -2,7 +2,7 @@
 ghost use Rattle.std.specs.Prelude.{◌≡◌, ◌<◌, ◌≤◌, true, cond, [], ◌∷◌, length, drop, MatchOption, nat_lt};
 ghost use Rattle.std.specs.List.{list_all};
 ghost use Rattle.text.specs.Kinds.{place_of, kind_of, Sound};
-ghost use Rattle.text.specs.Numbers.{decimal, is_digit};
+ghost use Rattle.text.specs.Numbers.{said_number, is_digit};
 ghost use Rattle.text.specs.Outcomes.{refusal_of, head_of, item_of, cost_of, is_arrow, is_blank, fault, fault_said, token_piece};
 ghost use Rattle.text.specs.Turns.{words_left};
 
@@ -29,7 +29,7 @@ pub(crate) fn next_token<'t>(words: &mut Words<'t>) -> Option<Token<'t>>
 // The number after a word's letter, or nothing where it is over a limit.
 fn lettered_number(word: &[u8], limit: u32) -> Option<u32>
     requires { (0 < length word.now) × (list_all is_digit (drop 1 word.now) ≡ true) }
-    ensures { MatchOption result (limit < decimal (drop 1 word.now)) (λ n. (n ≡ decimal (drop 1 word.now)) × (n ≤ limit)) }
+    ensures { MatchOption result (limit < said_number (drop 1 word.now)) (λ n. (n ≡ said_number (drop 1 word.now)) × (n ≤ limit)) }
 {
     number(&word[1..], limit)
 }
@@ -37,7 +37,7 @@ fn lettered_number(word: &[u8], limit: u32) -> Option<u32>
 // The refusal of a word with a number that may not stand where it does: over its limit, or else out of place.
 fn lettered_refusal(word: &[u8], at: usize, limit: u32) -> LineFault
     requires { (0 < length word.now) × (list_all is_digit (drop 1 word.now) ≡ true) }
-    ensures { fault_said result ≡ fault (cond (nat_lt limit (decimal (drop 1 word.now))) 21 22) at }
+    ensures { fault_said result ≡ fault (cond (nat_lt limit (said_number (drop 1 word.now))) 21 22) at }
 {
     match lettered_number(word, limit) {
         Some(_) => LineFault::OutOfPlace(at),

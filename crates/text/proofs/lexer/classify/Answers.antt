@@ -1,6 +1,6 @@
 use Rattle.std.proofs.Common.{◌≡◌, ℕ, ◌-◌, ◌<◌, true, ◌⊎◌, List, length, get_or, take, drop, sym, refl, ap, ◌∙◌, inl, inr, arith, rules}
 use Rattle.text.specs.Kinds.{arrow, blank, head, pattern, cost, kind}
-use Rattle.text.specs.Numbers.{is_numeral, decimal}
+use Rattle.text.specs.Numbers.{is_numeral, said_number}
 use Rattle.text.specs.declared.token.Token.TheVariants.{Arrow, Blank, Head, Pattern, Cost, Unknown}
 use Rattle.text.proofs.Spelled.{Known, of_two, of_five, lettered, rest_of, sound_kind}
 use Rattle.text.proofs.lexer.classify.Goals as goal
@@ -35,21 +35,21 @@ pub returns-in-72-clause-is : goal.returns-in-72-clause-is
 returns-in-72-clause-is c =
     let w = c.args.word in
     let h : get_or w.now 0 0 ≡ 72 = grind arith in
-    let k : kind w.now ≡ head (decimal (drop 1 w.now)) = sound_kind (Head w c.args.at) (lettered w.now 72 (omega arith) h (sym c.if-is_numeral-2.ensures)) in
+    let k : kind w.now ≡ head (said_number (drop 1 w.now)) = sound_kind (Head w c.args.at) (lettered w.now 72 (omega arith) h (sym c.if-is_numeral-2.ensures)) in
     cc
 
 pub returns-in-80-clause-is : goal.returns-in-80-clause-is
 returns-in-80-clause-is c =
     let w = c.args.word in
     let h : get_or w.now 0 0 ≡ 80 = grind arith in
-    let k : kind w.now ≡ pattern (decimal (drop 1 w.now)) = sound_kind (Pattern w c.args.at) (lettered w.now 80 (omega arith) h (sym c.if-is_numeral.ensures)) in
+    let k : kind w.now ≡ pattern (said_number (drop 1 w.now)) = sound_kind (Pattern w c.args.at) (lettered w.now 80 (omega arith) h (sym c.if-is_numeral.ensures)) in
     cc
 
 pub returns-in-35-clause-is : goal.returns-in-35-clause-is
 returns-in-35-clause-is c =
     let w = c.args.word in
     let h : get_or w.now 0 0 ≡ 35 = grind arith in
-    let k : kind w.now ≡ cost (decimal (drop 1 w.now)) = sound_kind (Cost w c.args.at) (lettered w.now 35 (omega arith) h (sym c.if-is_numeral-3.ensures)) in
+    let k : kind w.now ≡ cost (said_number (drop 1 w.now)) = sound_kind (Cost w c.args.at) (lettered w.now 35 (omega arith) h (sym c.if-is_numeral-3.ensures)) in
     cc
 
 pub returns-in_default : goal.returns-in_default
