@@ -4,3 +4,5 @@ pub mod Meaning
 pub mod Parts
 pub mod Printing
 pub mod Texts
+pub mod ScriptWords
+pub mod ScriptSaying

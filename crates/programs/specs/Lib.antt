@@ -5,3 +5,6 @@ pub mod Said
 pub mod Printed
 pub mod Faults
 pub mod Calls
+pub mod ScriptLines
+pub mod ScriptSaid
+pub mod Spelling

@@ -21,6 +21,7 @@ mod lines;
 mod print;
 mod read;
 mod run;
+mod said;
 mod spelled;
 mod words;
 
@@ -40,10 +41,10 @@ fn script_text(heap: Global, part: Part<'_>) -> Result<String, ScriptFault> {
     let mut number = part.first;
     for line in Lines::of(part.text) {
         if let Some(word) = line.words().next() {
-            if Bytes::begins_patterns(word.bytes) {
+            if said::same(word.bytes, Bytes::name()) {
                 return Ok(run::<Bytes>(heap, &read::<Bytes>(heap, part)?)?);
             }
-            if Cards::begins_patterns(word.bytes) {
+            if said::same(word.bytes, Cards::name()) {
                 return Ok(run::<Cards>(heap, &read::<Cards>(heap, part)?)?);
             }
             break;
