@@ -6,3 +6,4 @@ pub mod Printing
 pub mod Texts
 pub mod ScriptWords
 pub mod ScriptSaying
+pub mod ScriptReading
