@@ -7,3 +7,4 @@ pub mod Texts
 pub mod ScriptWords
 pub mod ScriptSaying
 pub mod ScriptReading
+pub mod ScriptParts

@@ -8,3 +8,4 @@ pub mod Calls
 pub mod ScriptLines
 pub mod ScriptSaid
 pub mod Spelling
+pub mod ScriptOutput

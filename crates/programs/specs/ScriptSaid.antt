@@ -2,6 +2,7 @@
 use Rattle.std.specs.Prelude.{◌≡◌, ℕ, List, ◌++◌, take, drop, Ok, Err, Option, Result, option_map}
 use Rattle.programs.specs.Scripts.{Script}
 use Rattle.programs.specs.ScriptLines.{Item, patterns, a_book_call, rules_follow, weights, nodes, a_chart_line, ReadSoFar, so_far}
+use Rattle.programs.specs.ScriptOutput.{malformed_line}
 use Rattle.programs.specs.Said.{book_line, chart_line, script_said}
 use Rattle.programs.specs.declared.script.fault.Cause.{Cause}
 use Rattle.programs.specs.declared.script.fault.ScriptFault.{ScriptFault}
@@ -34,3 +35,9 @@ abbrev pub ScriptGives : {A B : Type 0} → (A → B) → Result A ScriptFault �
 ScriptGives f (Ok x) r = r ≡ Ok (f x)
 ScriptGives f (Err (Line n c)) r = r ≡ Err (n, c)
 ScriptGives f (Err (NoMemory e)) r = Unit {0}
+
+-- the text that is given, or the line for a malformed script; nothing is said of where memory fails
+abbrev pub TextGives : {A : Type 0} → (A → List ℕ) → Result A ScriptFault → List ℕ → Type 0
+TextGives f (Ok x) t = f x ≡ t
+TextGives f (Err (Line n c)) t = malformed_line n c ≡ t
+TextGives f (Err (NoMemory e)) t = Unit {0}
