@@ -1,8 +1,12 @@
+pub mod Admitting
 pub mod Dividing
 pub mod Feeding
 pub mod Meaning
 pub mod Parts
 pub mod Printing
+pub mod ScriptLines
+pub mod ScriptMeaning
+pub mod TakenNodes
 pub mod Texts
 pub mod ScriptWords
 pub mod ScriptSaying

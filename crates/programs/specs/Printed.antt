@@ -125,7 +125,7 @@ pub record PrintMeans {P E : Type 0} (fits : P → E → Type 0) (test : P → E
   -- more than 32 patterns are refused, and nothing else is printed
   pub table : 32 < length s.patterns → script_print test s ≡ codes "refused 8\n"
   -- a number of a pattern fits an event exactly if there is a pattern of this number, and it fits
-  pub fits : TestsTable fits s.patterns (script_fits test s)
+  pub tests : TestsTable fits s.patterns (script_fits test s)
   -- the rules of each load are loaded line by line, whatever rules are held
   pub loads : length s.patterns ≤ 32 → (rules : List Production) (text : List ℕ) → LoadMeans (length s.patterns) rules text
   -- whatever events are held, their totals are those of the readings by the book

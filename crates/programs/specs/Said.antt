@@ -1,5 +1,5 @@
 -- What the lines of a script say, as they were read.
-use Rattle.std.specs.Prelude.{ℕ, map}
+use Rattle.std.specs.Prelude.{map}
 use Rattle.book.specs.Runs.{Call, an_offer, a_load, a_strike}
 use Rattle.replay.specs.Calls.{chart_call_of}
 use Rattle.programs.specs.Scripts.{ChartLine, a_call, a_total, a_reading, Script}

@@ -40,11 +40,16 @@ fn checked<A: Alphabet>(patterns: &[A::Pattern]) -> PatternTable<'_, A>
     }
 }
 
-// A place for the answer to each call.
+// A place for the answer to each call; more places than numbers can say are more than memory has.
 fn places<P, E>(heap: Global, calls: &Calls<P, E>) -> Result<Vec<Answer>, AllocError>
     ensures { IfOk result (λ v. vec_len v ≡ length calls.now.book.now + length calls.now.chart.now) }
 {
-    vec![in heap; Answer::Struck(Ok(0)); calls.book.len() + calls.chart.len()]
+    let count = calls
+        .book
+        .len()
+        .checked_add(calls.chart.len())
+        .ok_or(AllocError)?;
+    vec![in heap; Answer::Struck(Ok(0)); count]
 }
 
 // The total by a weighing, over a table of so many weights, and the answers.

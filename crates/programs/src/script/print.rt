@@ -1,5 +1,5 @@
 // How answers and readings are printed.
-ghost use Rattle.std.specs.Prelude.{◌≡◌, ◌++◌, map, OnOk, string_bytes};
+ghost use Rattle.std.specs.Prelude.{◌≡◌, ◌++◌, map, take, OnOk, string_bytes};
 ghost use Rattle.grammar.specs.Lists.{each};
 ghost use Rattle.chart.specs.Nodes.{node_of, nodes_of};
 ghost use Rattle.chart.specs.Readings.{reading_answer};
@@ -34,6 +34,17 @@ fn push_nodes(out: &mut String, nodes: &[Node]) -> Result<(), AllocError>
     Ok(())
 }
 
+// The first nodes of a table, so many or all.
+fn front(nodes: &[Node], count: usize) -> &[Node]
+    ensures { nodes_of result.now ≡ take count (nodes_of nodes.now) }
+{
+    if count < nodes.len() {
+        &nodes[..count]
+    } else {
+        nodes
+    }
+}
+
 // Adds what the call for the reading answered, and the nodes that stand in the table: all, or those before the refusal.
 pub(crate) fn push_reading(
     out: &mut String,
@@ -46,11 +57,11 @@ pub(crate) fn push_reading(
         Ok(None) => writeln!(out, "none"),
         Ok(Some(count)) => {
             writeln!(out, "nodes {count}")?;
-            push_nodes(out, nodes.get(..count).unwrap_or(nodes))
+            push_nodes(out, front(nodes, count))
         }
         Err(fault) => {
             writeln!(out, "refused {}", fault.number())?;
-            push_nodes(out, nodes.get(..NODES).unwrap_or(nodes))
+            push_nodes(out, front(nodes, NODES))
         }
     }
 }

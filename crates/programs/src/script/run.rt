@@ -1,12 +1,14 @@
 // A script as it is run: the answer to each call, and what is asked on the way. Each total and each reading is that of a replay of all calls
 // up to its line.
 ghost use Rattle.std.specs.Prelude.{◌≡◌, ◌++◌, ◌≤◌, [], length, map, IfOk, OnOk, string_bytes};
+ghost use Rattle.grammar.specs.Lists.{each};
 ghost use Rattle.grammar.specs.Productions.{Sound};
 ghost use Rattle.replay.specs.Calls.{call_of, chart_call_of};
-ghost use Rattle.replay.specs.Answers.{said, chart_answers};
+ghost use Rattle.replay.specs.Answers.{said, book_answers, chart_answers};
 ghost use Rattle.programs.specs.Calls.{calls_book, calls_symbols, calls_fits, calls_events, calls_answers};
+ghost use Rattle.programs.specs.Scripts.{a_reading};
 ghost use Rattle.programs.specs.Said.{book_line, asked, chart_line, script_said};
-ghost use Rattle.programs.specs.Printed.{line_text, lines_text, script_print, calls_in, AllCheap, PrintMeans};
+ghost use Rattle.programs.specs.Printed.{answer_text, line_text, lines_text, script_print, calls_in, AllCheap, PrintMeans};
 
 use crate::script::calls::{Calls, answers, reading, totals};
 use crate::script::lines::{BookLine, ChartLine, Question, Script, Sizes};
@@ -39,11 +41,27 @@ fn chart_calls<E: Copy>(
 {
     let mut calls = Vec::new(heap);
     for line in lines {
-        if let ChartLine::Call(call) = line {
-            calls.push(*call)?;
+        match line {
+            ChartLine::Call(call) => calls.push(*call)?,
+            ChartLine::Ask(_) => {}
         }
     }
     Ok(calls)
+}
+
+// Adds the reading after these calls, in a table of nodes.
+fn push_taken<A: Alphabet>(
+    heap: Global,
+    out: &mut String,
+    calls: &Calls<A::Pattern, A::Event>,
+    weights: usize,
+    nodes: &mut [Node],
+) -> Result<(), AllocError>
+    requires { Sound (calls_book calls.now) }
+    ensures { OnOk result (string_bytes out.new ≡ string_bytes out.old ++ line_text (calls_book calls.now) (calls_fits A.Alphabet.test calls.now) weights (length nodes.old) (calls_events weights calls.now) a_reading) }
+{
+    let answer = reading::<A>(heap, calls, weights, nodes)?;
+    push_reading(out, answer, nodes)
 }
 
 // Adds what is asked after these calls.
@@ -66,8 +84,7 @@ fn push_asked<A: Alphabet>(
                 count: 0,
             };
             let mut nodes = vec![in heap; node; sizes.nodes]?;
-            let answer = reading::<A>(heap, calls, sizes.weights, &mut nodes)?;
-            push_reading(out, answer, &nodes)
+            push_taken::<A>(heap, out, calls, sizes.weights, &mut nodes)
         }
     }
 }
@@ -90,8 +107,10 @@ fn push_lines<A: Alphabet>(
     for line in lines {
         match line {
             ChartLine::Call(_) => {
-                writeln!(out, "{}", answers[made])?;
-                made += 1;
+                if made < answers.len() {
+                    writeln!(out, "{}", answers[made])?;
+                    made += 1;
+                }
             }
             ChartLine::Ask(question) => {
                 let before = Calls {
@@ -104,6 +123,25 @@ fn push_lines<A: Alphabet>(
         }
     }
     Ok(())
+}
+
+// What the calls of a script are answered, and what is asked among the lines of its chart.
+fn calls_text<A: Alphabet>(
+    heap: Global,
+    calls: &Calls<A::Pattern, A::Event>,
+    lines: &[ChartLine<A::Event>],
+    sizes: Sizes,
+) -> Result<String, AllocError>
+    requires sound { Sound (calls_book calls.now) }
+    requires calls { map chart_call_of calls.now.chart.now ≡ calls_in (map chart_line lines.now) }
+    ensures { IfOk result (λ s. string_bytes s ≡ each answer_text (book_answers (length calls.now.patterns.now) [] (map call_of calls.now.book.now)) ++ lines_text (calls_book calls.now) (calls_fits A.Alphabet.test calls.now) sizes.weights sizes.nodes [] (map chart_line lines.now)) }
+{
+    let all = answers::<A>(heap, calls, sizes.weights)?;
+    let (first, others) = all.split_at(calls.book.len());
+    let mut out = String::new(heap);
+    push_answers(&mut out, first)?;
+    push_lines::<A>(heap, &mut out, calls, lines, others, sizes)?;
+    Ok(out)
 }
 
 // What a script of few enough patterns prints: a line for each answer, in the order of its lines.
@@ -121,12 +159,7 @@ fn run_calls<A: Alphabet>(
         book: &book,
         chart: &chart,
     };
-    let all = answers::<A>(heap, &calls, script.sizes.weights)?;
-    let (first, others) = all.split_at(book.len());
-    let mut out = String::new(heap);
-    push_answers(&mut out, first)?;
-    push_lines::<A>(heap, &mut out, &calls, &script.chart, others, script.sizes)?;
-    Ok(out)
+    calls_text::<A>(heap, &calls, &script.chart, script.sizes)
 }
 
 // What a script prints: the answers, or the refusal of its table of patterns.
