@@ -12,3 +12,6 @@ pub mod ScriptWords
 pub mod ScriptSaying
 pub mod ScriptReading
 pub mod ScriptParts
+pub mod ScriptLaw
+pub mod ScriptCosts
+pub mod ScriptMeant

@@ -9,3 +9,4 @@ pub mod ScriptLines
 pub mod ScriptSaid
 pub mod Spelling
 pub mod ScriptOutput
+pub mod ScriptMeans

@@ -17,6 +17,7 @@ ghost use Rattle.std.specs.Prelude.{◌≡◌, ◌+◌, ◌<◌, ◌≤◌, ◌^
 ghost use Rattle.programs.specs.Output.{line_texts};
 ghost use Rattle.programs.specs.ScriptLines.{read};
 ghost use Rattle.programs.specs.ScriptOutput.{part, parts, first_word, read_print, part_print, parts_print, script_output};
+ghost use Rattle.programs.specs.ScriptMeans.{ScriptMeans};
 ghost use Rattle.programs.specs.ScriptSaid.{TextGives};
 
 mod calls;
@@ -123,6 +124,7 @@ fn parts_text(heap: Global, input: &[u8]) -> Result<String, AllocError>
 // The output for an input of any bytes.
 pub fn script(heap: Global, input: &[u8]) -> Result<String, AllocError>
     ensures output { IfOk result (λ s. string_bytes s ≡ script_output input.now) }
+    ensures means { ScriptMeans input.now }
 {
     if input.len() > LIMIT {
         return format!(in heap; "refused 25\n");
