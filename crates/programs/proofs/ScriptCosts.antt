@@ -69,7 +69,7 @@ module _ {P E : Type 0} (S : Spelling P E) where
   by_map f None h = tt
   by_map f (Some x) h = h x
 
-  by_call : (o : Option Call) → CheapCall o → CheapSome (option_map (a_book_call {P = P} {E = E}) o)
+  by_call : (o : Option Call) → CheapCall o → CheapSome {P = P} {E = E} (option_map a_book_call o)
   by_call None h = tt
   by_call (Some c) h = h
 

@@ -70,7 +70,7 @@ module _ {P E : Type 0} (S : Spelling P E) where
       ap (λ q. go_on n (behind_said s q) (λ then. read_on S (suc n) then ws)) e
       ∙ ap (λ q. go_on n q (λ then. read_on S (suc n) then ws)) (cond-true (may_come s i) (Ok (so_far (with_item s i) (rules_of i))) (Err OutOfPlace) m)
 
-  on_wrong : (n : ℕ) (s : Script P E) (w : List ℕ) (ws : List (List ℕ)) (c : Cause) → Wrong S s w c → read_on S n (so_far s None) (w ∷ ws) ≡ Err (n, c)
+  pub on_wrong : (n : ℕ) (s : Script P E) (w : List ℕ) (ws : List (List ℕ)) (c : Cause) → Wrong S s w c → read_on S n (so_far s None) (w ∷ ws) ≡ Err (n, c)
   unfolding read_on
   on_wrong n s w ws c (inl e) = ap (λ q. go_on n (behind_said s q) (λ then. read_on S (suc n) then ws)) e
   on_wrong n s w ws c (inr (o, (i, e, m))) =
@@ -169,7 +169,7 @@ module _ {P E : Type 0} (S : Spelling P E) where
   -- lines where no rules follow, and lines behind a load alone and some of its rules
   abbrev Both : List (List ℕ) → Type 0
   Both ws = ((n : ℕ) (s : Script P E) → ReadMeans S n s ws (read_on S n (so_far s None) ws))
-      × ((n : ℕ) (s : Script P E) (w : List ℕ) (rs : List (List ℕ)) → Says S w rules_follow → may_come s (rules_follow {P = P} {E = E}) ≡ true → NoEndAmong rs
+      × ((n : ℕ) (s : Script P E) (w : List ℕ) (rs : List (List ℕ)) → Says S w rules_follow → may_come s rules_follow ≡ true → NoEndAmong rs
       → ReadMeans S n s (w ∷ (rs ++ ws)) (read_on S (suc (n + length rs)) (so_far s (Some (rules_text rs))) ws))
 
   both_end : Both []
@@ -181,7 +181,7 @@ module _ {P E : Type 0} (S : Spelling P E) where
       line = w;
       rules = rs ++ [];
       are = refl;
-      number = omega (arith, length-append rs ([] {A = List ℕ}));
+      number = (let empty : List (List ℕ) = [] in omega (arith, length-append rs empty));
       cause = refl;
       said = s;
       say = ([], none, refl);
@@ -208,7 +208,7 @@ module _ {P E : Type 0} (S : Spelling P E) where
         (ahead (w ∷ []) (i ∷ []) n s (with_item s i) ws q (λ vs js a. line w vs i js e o a) (λ js t f. (m, f)) (subst (λ k. ReadMeans S k (with_item s i) ws q) z (ih.0 (suc n) (with_item s i))))
 
     -- it is load alone
-    rules_here : (n : ℕ) (s : Script P E) → Says S w rules_follow → may_come s (rules_follow {P = P} {E = E}) ≡ true → ReadMeans S n s (w ∷ ws) (read_on S n (so_far s None) (w ∷ ws))
+    rules_here : (n : ℕ) (s : Script P E) → Says S w rules_follow → may_come s rules_follow ≡ true → ReadMeans S n s (w ∷ ws) (read_on S n (so_far s None) (w ∷ ws))
     rules_here n s e m =
         let z : suc n ≡ suc (n + 0) = omega arith in
         subst (ReadMeans S n s (w ∷ ws)) (sym (on_item n s w ws rules_follow e m ∙ ap (λ k. read_on S k (so_far s (Some [])) ws) z)) (ih.1 n s w [] e m (λ v k. absurd k))
@@ -223,7 +223,7 @@ module _ {P E : Type 0} (S : Spelling P E) where
     by_said n s (Err c) e = wrong_here n s w ws c (inl e)
 
     -- among the rules of a load
-    rule_here : (n : ℕ) (s : Script P E) (v : List ℕ) (rs : List (List ℕ)) → Says S v rules_follow → may_come s (rules_follow {P = P} {E = E}) ≡ true → NoEndAmong rs → is_end w ≡ false
+    rule_here : (n : ℕ) (s : Script P E) (v : List ℕ) (rs : List (List ℕ)) → Says S v rules_follow → may_come s rules_follow ≡ true → NoEndAmong rs → is_end w ≡ false
         → ReadMeans S n s (v ∷ (rs ++ (w ∷ ws))) (read_on S (suc (n + length rs)) (so_far s (Some (rules_text rs))) (w ∷ ws))
     rule_here n s v rs e m h f =
         let z : suc (suc (n + length rs)) ≡ suc (n + length (rs ++ (w ∷ []))) = omega (arith, length-append rs (w ∷ [])) in
@@ -233,11 +233,11 @@ module _ {P E : Type 0} (S : Spelling P E) where
         (subst (λ l. ReadMeans S n s (v ∷ l) (read_on S (suc (n + length (rs ++ (w ∷ [])))) (so_far s (Some (rules_text (rs ++ (w ∷ []))))) ws)) (append_assoc rs (w ∷ []) ws)
         (ih.1 n s v (rs ++ (w ∷ [])) e m (no_end_more rs w h (other w f))))
 
-    end_here : (n : ℕ) (s : Script P E) (v : List ℕ) (rs : List (List ℕ)) → Says S v rules_follow → may_come s (rules_follow {P = P} {E = E}) ≡ true → NoEndAmong rs → is_end w ≡ true
+    end_here : (n : ℕ) (s : Script P E) (v : List ℕ) (rs : List (List ℕ)) → Says S v rules_follow → may_come s rules_follow ≡ true → NoEndAmong rs → is_end w ≡ true
         → ReadMeans S n s (v ∷ (rs ++ (w ∷ ws))) (read_on S (suc (n + length rs)) (so_far s (Some (rules_text rs))) (w ∷ ws))
     end_here n s v rs e m h t =
         let front = v ∷ (rs ++ (codes "end" ∷ [])) in
-        let item = a_book_call {P = P} {E = E} (a_load (rules_text rs)) in
+        let item : Item P E = a_book_call (a_load (rules_text rs)) in
         let z : suc (suc (n + length rs)) ≡ n + length front = omega (arith, length-append rs (codes "end" ∷ [])) in
         let ended : w ≡ codes "end" = same_is w (codes "end") t in
         let q = read_on S (suc (suc (n + length rs))) (so_far (loaded s (rules_text rs)) None) ws in

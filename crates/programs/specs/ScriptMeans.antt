@@ -88,7 +88,7 @@ pub record EndMissed {P E : Type 0} (S : Spelling P E) (n : ℕ) (s : Script P E
   pub said : Script P E
   pub say : SayBehind S s before said
   pub begins : Says S line rules_follow
-  pub may : may_come said (rules_follow {P = P} {E = E}) ≡ true
+  pub may : may_come said rules_follow ≡ true
   pub no_end : NoEndAmong rules
 
 -- what it means that lines give a script or a fault
