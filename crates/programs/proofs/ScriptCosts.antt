@@ -1,15 +1,14 @@
 -- The costs of the offers in a script have 16 bits.
-use Rattle.std.proofs.Common.{◌≡◌, ℕ, ◌≤◌, Bool, true, false, cond, ◌&&◌, leb, List, [], ◌∷◌, ◌++◌, Some, None, Ok, Err, Option, Result, sym, refl, ap, ◌∙◌, subst, inl, inr, arith}
+use Rattle.std.proofs.Common.{◌≡◌, ℕ, ◌≤◌, true, ◌&&◌, leb, List, [], ◌∷◌, Some, None, Ok, Err, Option, Result, sym, refl, subst, inl, inr}
 use Rattle.std.specs.Prelude.{option_map, option_and_then, ok_or}
 use Rattle.std.proofs.lemmas.Bool.{and_parts, leb-true}
 use Rattle.std.proofs.lemmas.Option.{cond_some}
-use Rattle.grammar.specs.Lists.{Mem}
 use Rattle.grammar.proofs.Lists.{mem_append}
 use Rattle.text.specs.Numbers.{all_digits, decimal}
 use Rattle.text.specs.Words.{Piece, words}
 use Rattle.book.specs.Runs.{Call, an_offer, a_load, a_strike}
 use Rattle.chart.specs.Runs.{a_feed, a_withdraw}
-use Rattle.programs.specs.Scripts.{ChartLine, a_call, a_total, a_reading, Script}
+use Rattle.programs.specs.Scripts.{a_call, a_total, a_reading, Script}
 use Rattle.programs.specs.Spelling.{Spelling, word_texts, number_said, first_number, by_number, only, numbers_said}
 use Rattle.programs.specs.ScriptLines.{Item, patterns, a_book_call, rules_follow, weights, nodes, a_chart_line, first_of, one_number, offer_said, load_said, item_said, kind_said, words_say, line_said, with_item}
 use Rattle.programs.specs.ScriptMeans.{Says, ItemsAre, Follows}

@@ -1,17 +1,17 @@
 -- What it means that lines give a script or a fault.
 use Rattle.std.specs.Prelude.{codes}
-use Rattle.std.proofs.Common.{◌≡◌, ◌≢◌, ◌⊎◌, ℕ, suc, ◌+◌, Bool, true, false, cond, ◌&&◌, List, [], ◌∷◌, ◌++◌, length, Some, None, Ok, Err, Option, Result, true≢false, sym, refl, ap, ◌∙◌, subst, inl, inr, append_assoc, append-nil, arith, length-append}
+use Rattle.std.proofs.Common.{◌≡◌, ◌≢◌, ◌⊎◌, ℕ, suc, ◌+◌, true, false, ◌&&◌, List, [], ◌∷◌, ◌++◌, length, Some, None, Ok, Err, Option, Result, true≢false, sym, refl, ap, ◌∙◌, subst, inl, inr, append_assoc, append-nil, arith, length-append}
 use Rattle.std.proofs.lemmas.Bool.{cases_Bool, cond-true, cond-false, eqb-true, eq-eqb}
-use Rattle.grammar.specs.Lists.{Mem, each, same_numbers}
+use Rattle.grammar.specs.Lists.{same_numbers}
 use Rattle.grammar.proofs.Lists.{mem_append}
 use Rattle.book.specs.Runs.{a_load}
 use Rattle.programs.specs.Scripts.{Script}
 use Rattle.programs.specs.Spelling.{Spelling}
 use Rattle.programs.specs.ScriptLines.{Item, patterns, a_book_call, rules_follow, weights, nodes, a_chart_line, line_said, may_come, with_item, rules_of, so_far, ReadSoFar, behind_said, is_end, go_on, read_on}
-use Rattle.programs.specs.ScriptMeans.{Says, NoEndAmong, rules_text, ItemsAre, Follows, SayBehind, Wrong, LineRefused, EndMissed, ReadMeans}
+use Rattle.programs.specs.ScriptMeans.{Says, NoEndAmong, rules_text, ItemsAre, Follows, Wrong, ReadMeans}
 use Rattle.programs.specs.ScriptMeans.ItemsAre.{none, blank, line, load}
 use Rattle.programs.specs.declared.script.fault.Cause.{Cause}
-use Rattle.programs.specs.declared.script.fault.Cause.TheVariants.{OutOfPlace, NoEnd}
+use Rattle.programs.specs.declared.script.fault.Cause.TheVariants.{OutOfPlace}
 use Rattle.programs.proofs.Printing.{both_true}
 
 -- Texts that are the same

@@ -1,8 +1,6 @@
 -- What the definition of the script program's output means.
-use Rattle.std.specs.Prelude.{◌↔◌, codes}
-use Rattle.std.proofs.Common.{◌≡◌, ◌≢◌, ◌⊎◌, ℕ, suc, ◌+◌, Bool, true, false, cond, nat_eq, List, [], ◌∷◌, ◌++◌, length, None, Ok, Err, Result, true≢false, sym, refl, ap, ◌∙◌, subst, inl, inr, append_assoc, append-nil, arith}
+use Rattle.std.proofs.Common.{◌≡◌, ℕ, suc, ◌+◌, Bool, false, nat_eq, List, [], ◌∷◌, ◌++◌, length, None, Ok, Err, Result, true≢false, sym, refl, ap, ◌∙◌, subst, inl, inr, append_assoc, append-nil, arith}
 use Rattle.std.proofs.lemmas.Bool.{cases_Bool, cond-true, cond-false}
-use Rattle.grammar.specs.Lists.{Mem, same_numbers}
 use Rattle.book.specs.Fits.{Tests, CardFits, card_test}
 use Rattle.book.specs.Tested.{bytes_tested, cards_tested}
 use Rattle.programs.specs.Output.{line_texts}
@@ -10,7 +8,7 @@ use Rattle.programs.specs.Scripts.{Script}
 use Rattle.programs.specs.Spelling.{Spelling, bytes_spelling, cards_spelling}
 use Rattle.programs.specs.ScriptLines.{nothing_said, so_far, read_on, read}
 use Rattle.programs.specs.ScriptOutput.{Part, part, is_bar, longer, parts}
-use Rattle.programs.specs.ScriptMeans.{NoBar, Parted, SayScript, BeginScript, LineRefused, EndMissed, ReadMeans, PartMeans, ScriptMeans}
+use Rattle.programs.specs.ScriptMeans.{NoBar, Parted, SayScript, BeginScript, LineRefused, ReadMeans, PartMeans, ScriptMeans}
 use Rattle.programs.specs.ScriptMeans.Parted.{last, next}
 use Rattle.programs.specs.declared.script.fault.Cause.{Cause}
 use Rattle.programs.proofs.Parts.{lines_law}

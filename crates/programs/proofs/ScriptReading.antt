@@ -1,8 +1,8 @@
 -- A script is read line by line.
-use Rattle.std.proofs.Common.{◌≡◌, ℕ, suc, ◌+◌, ◌-◌, ◌<◌, ◌≤◌, Bool, true, false, cond, List, [], ◌∷◌, ◌++◌, length, map, get_or, take, drop, Some, None, Ok, Err, Option, Result, Bor, sym, refl, ap, ◌∙◌, subst, ⊎_elim, append_assoc, true≢false, arith}
+use Rattle.std.proofs.Common.{◌≡◌, ℕ, suc, ◌+◌, ◌-◌, ◌<◌, ◌≤◌, true, false, List, [], ◌∷◌, ◌++◌, length, take, drop, Some, None, Ok, Err, Option, Result, sym, refl, ap, ◌∙◌, subst, ⊎_elim, append_assoc, true≢false, arith}
 use Rattle.std.specs.Prelude.{option_map, is_some}
-use Rattle.std.proofs.lemmas.List.{drop-append-le, take-append-le, take_more, take-take, take_all, take-append-drop, drop-take, drop_all, length-take-le, map-append, length-append}
-use Rattle.std.proofs.lemmas.Bool.{cases_lt, cond-true, cond-false}
+use Rattle.std.proofs.lemmas.List.{drop-append-le, take-append-le, take_more, take-take, take_all, take-append-drop, drop-take, drop_all, length-take-le, length-append}
+use Rattle.std.proofs.lemmas.Bool.{cases_lt}
 use Rattle.text.specs.Turns.{IsNextLine}
 use Rattle.text.specs.Words.{IsLineEnd}
 use Rattle.text.specs.declared.lines.Line.{Line}
@@ -10,13 +10,13 @@ use Rattle.text.specs.declared.lines.Lines.{Lines}
 use Rattle.programs.specs.Output.{line_texts}
 use Rattle.programs.specs.Scripts.{Script}
 use Rattle.programs.specs.Spelling.{Spelling}
-use Rattle.programs.specs.ScriptLines.{with_item, so_far, ReadSoFar, is_end, behind_rules, behind_line, at_end, go_on, read_on}
+use Rattle.programs.specs.ScriptLines.{so_far, ReadSoFar, behind_line, at_end, go_on, read_on}
 use Rattle.programs.specs.ScriptSaid.{LineGives, ScriptGives}
 use Rattle.programs.specs.declared.script.fault.Cause.{Cause}
 use Rattle.programs.specs.declared.script.fault.Cause.TheVariants.{NoEnd}
 use Rattle.programs.specs.declared.script.fault.ScriptFault.{ScriptFault}
 use Rattle.programs.specs.declared.script.fault.ScriptFault.TheVariants.{Line as LineFault, NoMemory}
-use Rattle.programs.proofs.Texts.{texts_none, next_texts}
+use Rattle.programs.proofs.Texts.{texts_none}
 
 -- The text of rules that follow
 

@@ -1,19 +1,19 @@
 -- What one line of a script says, wherever it stands in the text.
-use Rattle.std.proofs.Common.{◌≡◌, ℕ, ◌+◌, List, [], ◌∷◌, drop, map, Some, None, Ok, Err, Option, Result, sym, refl, ap, ◌∙◌, subst, arith}
+use Rattle.std.proofs.Common.{◌≡◌, ℕ, ◌+◌, List, [], ◌∷◌, drop, map, Some, None, Ok, Err, Option, sym, refl, ap, ◌∙◌, arith}
 use Rattle.std.specs.Prelude.{option_map, ok_or}
 use Rattle.std.proofs.lemmas.List.{drop-drop}
 use Rattle.text.specs.Words.{Piece, words}
 use Rattle.text.specs.Turns.{words_left}
 use Rattle.text.specs.declared.words.Words.{Words}
 use Rattle.text.proofs.Later.{shift, words_later}
-use Rattle.book.specs.Runs.{Call, a_load, a_strike}
+use Rattle.book.specs.Runs.{a_load, a_strike}
 use Rattle.chart.specs.Runs.{a_feed, a_withdraw}
-use Rattle.programs.specs.Scripts.{ChartLine, a_call, a_total, a_reading}
+use Rattle.programs.specs.Scripts.{a_call, a_total, a_reading}
 use Rattle.programs.specs.Spelling.{Spelling, word_texts, only}
-use Rattle.programs.specs.ScriptLines.{Item, patterns, a_book_call, weights, nodes, a_chart_line, one_number, offer_said, load_said, item_said, kind_said, words_say, line_said, first_of}
+use Rattle.programs.specs.ScriptLines.{patterns, a_book_call, weights, nodes, a_chart_line, one_number, offer_said, load_said, item_said, kind_said, words_say, line_said, first_of}
 use Rattle.programs.specs.ScriptSaid.{LineGives}
 use Rattle.programs.specs.declared.script.fault.Cause.{Cause}
-use Rattle.programs.specs.declared.script.fault.Cause.TheVariants.{UnknownLine, OtherWords}
+use Rattle.programs.specs.declared.script.fault.Cause.TheVariants.{OtherWords}
 use Rattle.programs.specs.declared.script.fault.ScriptFault.{ScriptFault}
 use Rattle.programs.specs.declared.script.fault.ScriptFault.TheVariants.{Line, NoMemory}
 use Rattle.programs.specs.declared.script.said.First.{First}

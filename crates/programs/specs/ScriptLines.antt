@@ -1,5 +1,5 @@
 -- What the lines of a script say.
-use Rattle.std.specs.Prelude.{◌≡◌, ℕ, suc, Bool, true, cond, not, ◌&&◌, List, [], ◌∷◌, ◌++◌, drop, length, Some, None, Ok, Err, Option, Result, option_map, ok_or, ◌==◌, codes}
+use Rattle.std.specs.Prelude.{ℕ, suc, Bool, true, cond, ◌&&◌, List, [], ◌∷◌, ◌++◌, drop, length, Some, None, Ok, Err, Option, Result, option_map, ok_or, ◌==◌, codes}
 use Rattle.std.specs.Option.{option_map_or}
 use Rattle.grammar.specs.Lists.{same_numbers}
 use Rattle.text.specs.Words.{Piece, words}

@@ -1,5 +1,5 @@
 -- What the definition of the script program's output means.
-use Rattle.std.specs.Prelude.{◌≡◌, ◌≢◌, ◌↔◌, ◌⊎◌, ℕ, suc, ◌+◌, Bool, true, false, List, [], ◌∷◌, ◌++◌, length, Some, None, Ok, Err, Option, Result, nat_eq, codes}
+use Rattle.std.specs.Prelude.{◌≡◌, ◌≢◌, ◌↔◌, ◌⊎◌, ℕ, suc, ◌+◌, Bool, true, false, List, [], ◌∷◌, ◌++◌, length, Some, None, Ok, Err, Result, nat_eq, codes}
 use Rattle.grammar.specs.Lists.{Mem, each}
 use Rattle.book.specs.Runs.{a_load}
 use Rattle.book.specs.Fits.{CardFits, card_test}

@@ -5,7 +5,7 @@ use Rattle.text.specs.Words.{Piece, words}
 use Rattle.book.specs.Fits.{card_test}
 use Rattle.programs.specs.Output.{line_texts}
 use Rattle.programs.specs.Scripts.{Script}
-use Rattle.programs.specs.Spelling.{Spelling, bytes_spelling, cards_spelling}
+use Rattle.programs.specs.Spelling.{bytes_spelling, cards_spelling}
 use Rattle.programs.specs.ScriptLines.{read}
 use Rattle.programs.specs.Faults.{malformed_text}
 use Rattle.programs.specs.Printed.{script_print}

@@ -1,6 +1,5 @@
 -- What was read of a script, as its lines say it.
-use Rattle.std.specs.Prelude.{◌≡◌, ℕ, List, ◌++◌, take, drop, Ok, Err, Option, Result, option_map}
-use Rattle.programs.specs.Scripts.{Script}
+use Rattle.std.specs.Prelude.{◌≡◌, ℕ, List, drop, Ok, Err, Result, option_map}
 use Rattle.programs.specs.ScriptLines.{Item, patterns, a_book_call, rules_follow, weights, nodes, a_chart_line, ReadSoFar, so_far}
 use Rattle.programs.specs.ScriptOutput.{malformed_line}
 use Rattle.programs.specs.Said.{book_line, chart_line, script_said}

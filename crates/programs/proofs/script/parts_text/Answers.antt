@@ -1,4 +1,4 @@
-use Rattle.std.proofs.Common.{◌≡◌, ◌+◌, ◌-◌, ◌≤◌, ◌++◌, [], length, take, drop, string_bytes, sym, refl, ap, ◌∙◌, subst, append_assoc, arith}
+use Rattle.std.proofs.Common.{◌≡◌, ◌+◌, ◌-◌, ◌≤◌, ◌++◌, length, take, drop, string_bytes, sym, refl, ap, ◌∙◌, subst, append_assoc, arith}
 use Rattle.std.specs.Prelude.{codes}
 use Rattle.std.proofs.lemmas.List.{take_all, drop_all, length-take}
 use Rattle.programs.specs.Output.{line_texts}
@@ -62,8 +62,8 @@ loop-line-preserved-then-divides c =
     let p = part_print (part first (line_texts (drop from (take was.from xs)))) in
     let more = parts_print (onto (n + 1) (line_texts (drop is.from (take is.from xs))) (parts (n + 1) (line_texts (drop is.from xs)))) in
     let text : take (l.from - from) (drop from xs) ≡ drop from (take was.from xs) = rules_whole xs from l.from (omega (arith, h.begins, i.order)) ∙ ap (λ k. drop from (take k xs)) h.begins in
-    let printed : string_bytes c.writeln.new.self ≡ (out ++ p) ++ bar = c.in_ok-writeln.ensures.bytes
-    ∙ ap (λ o. o ++ bar) (c.in_ok-push_part.ensures ∙ ap (λ t. out ++ part_print (part first (line_texts t))) text) in
+    let before : string_bytes c.push_part.new.out ≡ out ++ p = c.in_ok-push_part.ensures ∙ ap (λ t. out ++ part_print (part first (line_texts t))) text in
+    let printed : string_bytes c.writeln.new.self ≡ (out ++ p) ++ bar = cc (before, c.in_ok-writeln.ensures.bytes) in
     record {
       text = h.same ∙ i.text;
       order = omega (arith, h.past);

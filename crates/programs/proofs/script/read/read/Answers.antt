@@ -1,10 +1,11 @@
-use Rattle.std.proofs.Common.{◌≡◌, ◌≤◌, ◌++◌, [], ◌∷◌, Ok, Err, length, take, drop, sym, ap, ◌∙◌, subst, arith}
+use Rattle.std.proofs.Common.{◌≤◌, ◌++◌, [], ◌∷◌, Ok, Err, length, take, drop, sym, ap, ◌∙◌, subst, arith}
 use Rattle.std.specs.Prelude.{IfSome}
 use Rattle.std.proofs.lemmas.Result.{err_from_is_err_and}
 use Rattle.programs.specs.Output.{line_texts}
 use Rattle.programs.specs.Said.{script_said}
 use Rattle.programs.specs.ScriptLines.{behind_line, read}
 use Rattle.programs.specs.ScriptSaid.{LineGives, read_so_far}
+use Rattle.programs.specs.declared.script.fault.Cause.TheVariants.{NoEnd}
 use Rattle.programs.proofs.Texts.{next_texts}
 use Rattle.programs.proofs.ScriptReading.{before_line, behind_it, on_ok, on_end, no_line, end_missed, end_reached, fault_given}
 use Rattle.programs.proofs.script.read.read.Goals as goal
@@ -52,8 +53,10 @@ returns-then-is_some g c =
     let xs = c.args.part.text.now in
     let from = c.loop-line.line-iterator.from in
     let r = c.loop-line.reader in
-    i.whole ∙ on_end g.A.Spelled.spelling c.loop-line.number (read_so_far (take from (xs ++ (10 ∷ []))) r) (line_texts (drop from xs)) (no_line xs from (omega (arith, c.in-None.ensures.steps.0, ap length i.text)))
-    ∙ end_missed c.loop-line.number (script_said r.script) (λ f. drop f (take from (xs ++ (10 ∷ [])))) r.rules (sym c.is_some.ensures ∙ c.if-is_some.true)
+    let said : read g.A.Spelled.spelling c.args.part.first (line_texts xs) ≡ Err (c.loop-line.number, NoEnd) = i.whole
+    ∙ on_end g.A.Spelled.spelling c.loop-line.number (read_so_far (take from (xs ++ (10 ∷ []))) r) (line_texts (drop from xs)) (no_line xs from (omega (arith, c.in-None.ensures.steps.0, ap length i.text)))
+    ∙ end_missed c.loop-line.number (script_said r.script) (λ f. drop f (take from (xs ++ (10 ∷ [])))) r.rules (sym c.is_some.ensures ∙ c.if-is_some.true) in
+    search said
 
 pub returns : goal.returns
 returns g c =

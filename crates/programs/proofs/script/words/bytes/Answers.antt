@@ -1,4 +1,4 @@
-use Rattle.std.proofs.Common.{sym, ap, ◌∙◌}
+use Rattle.std.proofs.Common.{ap, ◌∙◌}
 use Rattle.programs.specs.Spelling.{texts_left}
 use Rattle.programs.proofs.ScriptWords.{numbers_behind, numbers_stop, numbers_more, numbers_end, numbers_none}
 use Rattle.programs.proofs.script.words.bytes.Goals as goal
