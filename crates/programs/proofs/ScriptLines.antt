@@ -1,5 +1,6 @@
 -- The lines of a script, one after the other.
 use Rattle.std.proofs.Common.{◌≡◌, ℕ, zero, suc, ◌+◌, ◌<◌, ◌≤◌, Bool, List, [], ◌∷◌, ◌++◌, map, length, get_or, take, drop, sym, refl, ap, ◌∙◌, subst, inl, inr, append_assoc, append-nil, add-one, arith, length-append, drop-cons}
+use Rattle.std.specs.List.{fold}
 use Rattle.std.proofs.Math.Seq.{drop-nil, take-append_seam, drop-append_seam}
 use Rattle.std.proofs.lemmas.List.{length-map, take_more, take-map, drop-map, map-append}
 use Rattle.std.proofs.lemmas.List.Sums.{fold_push}
@@ -85,6 +86,21 @@ module _ {E : Type 0} (lines : List (Line E)) (i : ℕ) (d : Line E) (calls : Li
   ask_seen q h e at =
       e ∙ sym (calls_more chart_line lines i d h ∙ ap (λ l. calls_in (map chart_line (take i lines)) ++ calls_in (chart_line l ∷ [])) at
       ∙ ap (λ l. calls_in (map chart_line (take i lines)) ++ l) (asked_calls q []) ∙ append-nil (calls_in (map chart_line (take i lines))))
+
+-- lines after others are printed with the events that these lead to
+pub lines_append : {E : Type 0} (W : Book) (fits : E → ℕ → Bool) (m n : ℕ) (es : List E) (ls ms : List (ChartLine E))
+    → lines_text W fits m n es (ls ++ ms) ≡ lines_text W fits m n es ls ++ lines_text W fits m n (fold (after (binarised W).symbols m) es (calls_in ls)) ms
+lines_append W fits m n es [] ms = refl
+lines_append W fits m n es (a_call c ∷ ls) ms =
+    let first = line_text W fits m n es (a_call c) in
+    let then = after (binarised W).symbols m es c in
+    ap (λ t. first ++ t) (lines_append W fits m n then ls ms) ∙ sym (append_assoc first (lines_text W fits m n then ls) _)
+lines_append W fits m n es (a_total ∷ ls) ms =
+    let first = line_text W fits m n es a_total in
+    ap (λ t. first ++ t) (lines_append W fits m n es ls ms) ∙ sym (append_assoc first (lines_text W fits m n es ls) _)
+lines_append W fits m n es (a_reading ∷ ls) ms =
+    let first = line_text W fits m n es a_reading in
+    ap (λ t. first ++ t) (lines_append W fits m n es ls ms) ∙ sym (append_assoc first (lines_text W fits m n es ls) _)
 
 -- what stands in a place where a list is known from there on
 drop_head : {A : Type 0} (xs : List A) (k : ℕ) (y : A) (ys : List A) → drop k xs ≡ y ∷ ys → (k < length xs) × ((d : A) → get_or xs k d ≡ y) × (drop (suc k) xs ≡ ys)

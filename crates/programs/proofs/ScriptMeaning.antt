@@ -1,5 +1,5 @@
 -- What is meant by what is printed for a script.
-use Rattle.std.proofs.Common.{◌≡◌, ℕ, ◌<◌, ◌≤◌, Bool, cond, ltb, List, [], ◌∷◌, ◌++◌, length, refl, sym, ap, ◌∙◌, subst, arith}
+use Rattle.std.proofs.Common.{◌≡◌, ℕ, ◌<◌, ◌≤◌, Bool, cond, ltb, List, [], ◌∷◌, ◌++◌, length, refl, sym, ap, ◌∙◌, subst, append_assoc, arith}
 use Rattle.std.specs.Prelude.{codes, decimal}
 use Rattle.std.specs.Fmt.{digits}
 use Rattle.std.proofs.lemmas.Bool.{cond-true, cond-false, lt-ltb, le-ltb}
@@ -15,11 +15,13 @@ use Rattle.book.specs.Runs.{Call, held_after}
 use Rattle.book.specs.Fits.{table_fits, Tests}
 use Rattle.book.proofs.FitsAt.{tests_table}
 use Rattle.book.proofs.Loading.{load_means}
+use Rattle.chart.specs.Runs.{held_events}
 use Rattle.replay.specs.Answers.{book_answers}
 use Rattle.programs.specs.Scripts.{ChartLine, Script}
-use Rattle.programs.specs.Printed.{answer_text, lines_text, script_book, script_fits, script_print, AllCheap, PrintMeans}
+use Rattle.programs.specs.Printed.{answer_text, line_text, held_then, lines_text, script_answers, script_lines, script_held, script_book, script_fits, script_print, AllCheap, PrintMeans}
 use Rattle.programs.proofs.Admitting.{held_admitted}
 use Rattle.programs.proofs.Meaning.{totals_mean}
+use Rattle.programs.proofs.ScriptLines.{lines_append}
 use Rattle.programs.proofs.TakenNodes.{reading_means}
 
 -- a refused table of patterns
@@ -52,6 +54,16 @@ module _ {P E : Type 0} (test : P → E → Bool) (s : Script P E) where
       ap (λ ps. text ps calls lines) e ∙ ap (λ cs. text s.patterns cs lines) f ∙ ap (text s.patterns s.book) h
       ∙ sym (cond-false (ltb 32 (length s.patterns)) _ _ (le-ltb 32 (length s.patterns) few))
 
+  -- where a line stands, it is printed by the events held after the calls before it
+  line_printed : length s.patterns ≤ 32 → (front back : List (ChartLine E)) (l : ChartLine E) → s.chart ≡ front ++ (l ∷ back)
+      → script_print test s ≡ (script_answers s ++ script_lines test s [] front) ++ (line_text (script_book s) (script_fits test s) s.weights s.nodes (script_held s front) l
+      ++ script_lines test s (held_then (script_book s) s.weights (script_held s front) l) back)
+  unfolding script_print held_events
+  line_printed few front back l e =
+      cond-false (ltb 32 (length s.patterns)) _ _ (le-ltb 32 (length s.patterns) few) ∙ ap (λ ls. script_answers s ++ script_lines test s [] ls) e
+      ∙ ap (λ t. script_answers s ++ t) (lines_append (script_book s) (script_fits test s) s.weights s.nodes [] front (l ∷ back))
+      ∙ sym (append_assoc (script_answers s) (script_lines test s [] front) _)
+
 module _ {P E : Type 0} (s : Script P E) (cheap : AllCheap s.book) where
   -- its book keeps to the bounds
   pub script_sound : length s.patterns ≤ 32 → Sound (script_book s)
@@ -63,6 +75,7 @@ module _ {P E : Type 0} (s : Script P E) (cheap : AllCheap s.book) where
     table = λ h. cond-true (ltb 32 (length s.patterns)) _ _ (lt-ltb 32 (length s.patterns) h);
     tests = tests_table fits test tested s.patterns;
     loads = λ few rules text. load_means (length s.patterns) rules text few;
+    lines = line_printed test s;
     totals = λ few. totals_mean (script_book s) (script_sound few) (script_fits test s);
     readings = λ few es t. reading_means (script_book s) (script_sound few) (script_fits test s) es t;
   }

@@ -17,7 +17,7 @@ use Rattle.book.specs.Loads.{LoadMeans}
 use Rattle.book.specs.Offers.{book}
 use Rattle.book.specs.Runs.{Call, an_offer, a_load, a_strike, held_after}
 use Rattle.chart.specs.Readings.{ReadingIs}
-use Rattle.chart.specs.Runs.{ChartCall, after}
+use Rattle.chart.specs.Runs.{ChartCall, after, held_events}
 use Rattle.replay.specs.Answers.{Saying, saying_text, book_answers, chart_answer}
 use Rattle.programs.specs.Answers.{totals_words}
 use Rattle.programs.specs.Output.{trace_totals, TotalsMean}
@@ -104,10 +104,17 @@ script_book s = book (length s.patterns) (held_after (length s.patterns) s.book)
 abbrev pub script_fits : {P E : Type 0} → (P → E → Bool) → Script P E → E → ℕ → Bool
 script_fits test s = table_fits test s.patterns
 
+-- the answers of its book's calls
+abbrev pub script_answers : {P E : Type 0} → Script P E → List ℕ
+script_answers s = each answer_text (book_answers (length s.patterns) [] s.book)
+
+-- what is printed for lines of its chart from where the events es are held
+abbrev pub script_lines : {P E : Type 0} → (P → E → Bool) → Script P E → List E → List (ChartLine E) → List ℕ
+script_lines test s es ls = lines_text (script_book s) (script_fits test s) s.weights s.nodes es ls
+
 -- what is printed for a script: the answers of the book's calls, and then the lines of the chart
 unfoldable pub script_print : {P E : Type 0} → (P → E → Bool) → Script P E → List ℕ
-script_print test s = cond (nat_lt 32 (length s.patterns)) (codes "refused 8\n")
-    (each answer_text (book_answers (length s.patterns) [] s.book) ++ lines_text (script_book s) (script_fits test s) s.weights s.nodes [] s.chart)
+script_print test s = cond (nat_lt 32 (length s.patterns)) (codes "refused 8\n") (script_answers s ++ script_lines test s [] s.chart)
 
 -- Laws
 
@@ -120,6 +127,10 @@ Cheap a_strike = Unit {0}
 abbrev pub AllCheap : List Call → Type 0
 AllCheap calls = (c : Call) → Mem c calls → Cheap c
 
+-- the events held after the calls among lines of the chart
+abbrev pub script_held : {P E : Type 0} → Script P E → List (ChartLine E) → List E
+script_held s ls = held_events (binarised (script_book s)).symbols s.weights (calls_in ls)
+
 -- what is meant by what is printed for a script
 pub record PrintMeans {P E : Type 0} (fits : P → E → Type 0) (test : P → E → Bool) (s : Script P E) : Type 0 where
   -- more than 32 patterns are refused, and nothing else is printed
@@ -128,6 +139,10 @@ pub record PrintMeans {P E : Type 0} (fits : P → E → Type 0) (test : P → E
   pub tests : TestsTable fits s.patterns (script_fits test s)
   -- the rules of each load are loaded line by line, whatever rules are held
   pub loads : length s.patterns ≤ 32 → (rules : List Production) (text : List ℕ) → LoadMeans (length s.patterns) rules text
+  -- what is printed for a line of the chart is that of the events held after the calls before it
+  pub lines : length s.patterns ≤ 32 → (front back : List (ChartLine E)) (l : ChartLine E) → s.chart ≡ front ++ (l ∷ back)
+      → script_print test s ≡ (script_answers s ++ script_lines test s [] front) ++ (line_text (script_book s) (script_fits test s) s.weights s.nodes (script_held s front) l
+      ++ script_lines test s (held_then (script_book s) s.weights (script_held s front) l) back)
   -- whatever events are held, their totals are those of the readings by the book
   pub totals : length s.patterns ≤ 32 → TotalsMean (script_book s) (script_fits test s)
   -- and the reading is the one that is taken of them: none exactly if there is none, else its nodes, as many as the table takes

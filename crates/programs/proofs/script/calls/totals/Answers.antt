@@ -1,6 +1,9 @@
 use Rattle.std.proofs.Common.{◌≡◌, ℕ, Bool}
+use Rattle.grammar.specs.Weights.{total_of}
+use Rattle.weighing.specs.Values.{counts as capped_counts, least_costs}
 use Rattle.chart.proofs.ByKind.{counted_by, least_by}
 use Rattle.programs.specs.declared.totals.Totals.{Totals}
+use Rattle.programs.specs.Output.{trace_totals}
 use Rattle.programs.specs.Calls.{calls_book, calls_fits, calls_events}
 use Rattle.programs.proofs.script.calls.totals.Goals as goal
 
@@ -14,6 +17,9 @@ returns g c =
     let W = calls_book c.args.calls.now in
     let fits = calls_fits g.A.Alphabet.test c.args.calls.now in
     let es = calls_events c.args.weights c.args.calls.now in
-    let count = (counted_by W c.requires fits es c.value.result c.in_ok-total-2.field-0 c.value.ensures c.in_ok-total-2.ensures.total).is_total in
-    let least = (least_by W c.requires fits es c.value-2.result c.in_ok-total-3.field-0 c.value-2.ensures c.in_ok-total-3.ensures.total).is_total in
-    same_totals _ _ _ _ _ _ c.in_ok-total.ensures.total count least
+    let counts : c.in_ok-total-2.field-0 ≡ total_of W capped_counts fits es = search c.in_ok-total-2.ensures.total in
+    let costs : c.in_ok-total-3.field-0 ≡ total_of W least_costs fits es = search c.in_ok-total-3.ensures.total in
+    let count = (counted_by W c.requires fits es c.value.result c.in_ok-total-2.field-0 c.value.ensures counts).is_total in
+    let least = (least_by W c.requires fits es c.value-2.result c.in_ok-total-3.field-0 c.value-2.ensures costs).is_total in
+    let t = trace_totals W fits es in
+    same_totals c.in_ok-total.field-0 t.verdict.0 c.value.result t.count c.value-2.result t.least c.in_ok-total.ensures.total count least

@@ -1,4 +1,4 @@
-use Rattle.std.proofs.Common.{◌≡◌, ◌+◌, ◌<◌, ◌++◌, length, drop, map, get_or, string_bytes, sym, ap, ◌∙◌, Ok, arith}
+use Rattle.std.proofs.Common.{◌≡◌, ◌+◌, ◌<◌, ◌++◌, length, drop, map, get_or, take, string_bytes, sym, ap, ◌∙◌, Ok, arith}
 use Rattle.std.proofs.Math.ListN.{get_or-map}
 use Rattle.std.proofs.lemmas.List.{length-map, take-map, drop_all}
 use Rattle.replay.specs.declared.answer.Answer.TheVariants.{Offered}
@@ -38,18 +38,20 @@ loop-line-preserved g c =
     elim c.match-line.branch [
       | in-Call+then-made-answers+in_ok-writeln-in-Call w ↦
           let none = Offered (Ok 0) in
-          let p = w.in_ok-writeln-in-Call.ensures.bytes ∙ ap (λ a. out ++ answer_text a) (sym (get_or-map said answers made none)) in
-          sofar_same W fits m n cs ls (map said answers) (i + 1) (made + 1) c.match-line.made was (string_bytes w.writeln.new.self) (string_bytes c.match-line.out) w.made-is (ap string_bytes w.out-is)
+          let p : string_bytes w.writeln.new.self ≡ out ++ answer_text (get_or (map said answers) made (said none)) = search (w.in_ok-writeln-in-Call.ensures.bytes, get_or-map said answers made none) in
+          let k : c.match-line.made ≡ made + 1 = search w.made-is in
+          sofar_same W fits m n cs ls (map said answers) (i + 1) (made + 1) c.match-line.made was (string_bytes w.writeln.new.self) (string_bytes c.match-line.out) k (ap string_bytes w.out-is)
           (call_printed W fits m n cs ls (map said answers) i made was out s d _ h (at ∙ ap chart_line w.in-Call.is) (said none) (string_bytes w.writeln.new.self) p)
       | in-Call+else-made-answers w ↦
           let there : made < length (map said answers) = answered W fits m n cs ls (map said answers) i made was out s d _ h (at ∙ ap chart_line w.in-Call.is) in
           absurd (omega (arith, there, w.if-made-answers.false, length-map answers said))
       | in-Ask+in_ok-push_asked-in-Ask w ↦
           let q = w.in-Ask.question in
-          let es = ap (held_events (calls_symbols c.args.calls.now) m) (sym (take-map chart_call_of made chart)) in
-          let p = w.in_ok-push_asked-in-Ask.ensures ∙ ap (λ l. out ++ line_text W fits m n l (asked q)) es in
+          let es = held W fits m n cs ls (map said answers) made in
+          let same : held_events (calls_symbols c.args.calls.now) m (map chart_call_of (take made chart)) ≡ es = ap (held_events (calls_symbols c.args.calls.now) m) (sym (take-map chart_call_of made chart)) in
+          let p : string_bytes w.push_asked.new.out ≡ out ++ line_text W fits m n es (asked q) = search (w.in_ok-push_asked-in-Ask.ensures, same) in
           sofar_same W fits m n cs ls (map said answers) (i + 1) made c.match-line.made was (string_bytes w.push_asked.new.out) (string_bytes c.match-line.out) w.made-is (ap string_bytes w.out-is)
-          (asked_printed W fits m n cs ls (map said answers) i made was out s d (asked q) h (at ∙ ap chart_line w.in-Ask.is) (asked_calls q (drop (i + 1) ls)) (asked_held W m (held W fits m n cs ls (map said answers) made) q) (string_bytes w.push_asked.new.out) p)
+          (asked_printed W fits m n cs ls (map said answers) i made was out s d (asked q) h (at ∙ ap chart_line w.in-Ask.is) (asked_calls q (drop (i + 1) ls)) (asked_held W m es q) (string_bytes w.push_asked.new.out) p)
     ]
 
 pub returns : goal.returns
