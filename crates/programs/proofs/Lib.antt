@@ -15,3 +15,4 @@ pub mod ScriptParts
 pub mod ScriptLaw
 pub mod ScriptCosts
 pub mod ScriptMeant
+pub mod ScriptWording

@@ -14,6 +14,7 @@ use Rattle.programs.specs.declared.script.fault.Cause.{Cause}
 use Rattle.programs.proofs.Parts.{lines_law}
 use Rattle.programs.proofs.ScriptLaw.{same_is, same_self, over, on_wrong, read_means}
 use Rattle.programs.proofs.ScriptCosts.{all_cheap}
+use Rattle.programs.proofs.ScriptWording.{Apart, bytes_apart, cards_apart, line_law, none_law}
 use Rattle.programs.proofs.ScriptMeaning.{print_means}
 
 -- The scripts of an input
@@ -62,8 +63,10 @@ module _ {P E : Type 0} (S : Spelling P E) where
       two_ways : {x : Script P E} {y : ℕ × Cause} → ◌≡◌ {A = Result (Script P E) (ℕ × Cause)} (Ok x) (Err y) → ⊥
       two_ways e = absurd cc
 
-  pub part_means : (fits : P → E → Type 0) (test : P → E → Bool) → Tests fits test → (n : ℕ) (ls : List (List ℕ)) → PartMeans S fits test n ls
-  part_means fits test tested n ls = record {
+  pub part_means : (fits : P → E → Type 0) (test : P → E → Bool) → Tests fits test → Apart S.name → (n : ℕ) (ls : List (List ℕ)) → PartMeans S fits test n ls
+  part_means fits test tested apart n ls = record {
+    each_line = line_law S apart;
+    no_words = none_law S;
     script = λ t. (said_read n ls t, read_said n ls t);
     fault = λ m c e. subst (ReadMeans S n nothing_said ls) e (read_means S n nothing_said ls);
     no_longer = refused n ls;
@@ -76,6 +79,6 @@ pub script_means : (input : List ℕ) → ScriptMeans input
 script_means input = record {
   lines = lines_law input;
   parted = parted 1 (line_texts input);
-  bytes = λ p. part_means bytes_spelling (λ (b e : ℕ). b ≡ e) nat_eq bytes_tested p.first p.lines;
-  cards = λ p. part_means cards_spelling CardFits card_test cards_tested p.first p.lines;
+  bytes = λ p. part_means bytes_spelling (λ (b e : ℕ). b ≡ e) nat_eq bytes_tested bytes_apart p.first p.lines;
+  cards = λ p. part_means cards_spelling CardFits card_test cards_tested cards_apart p.first p.lines;
 }

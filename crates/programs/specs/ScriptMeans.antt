@@ -1,12 +1,15 @@
 -- What the definition of the script program's output means.
-use Rattle.std.specs.Prelude.{◌≡◌, ◌≢◌, ◌↔◌, ◌⊎◌, ℕ, suc, ◌+◌, Bool, true, false, List, [], ◌∷◌, ◌++◌, length, Some, None, Ok, Err, Result, nat_eq, codes}
+use Rattle.std.specs.Prelude.{◌≡◌, ◌≢◌, ◌↔◌, ◌⊎◌, ℕ, suc, ◌+◌, Bool, true, false, List, [], ◌∷◌, ◌++◌, length, Some, None, Ok, Err, Result, nat_eq, codes, ◌≤◌, drop}
 use Rattle.grammar.specs.Lists.{Mem, each}
-use Rattle.book.specs.Runs.{a_load}
+use Rattle.text.specs.Numbers.{all_digits, decimal}
+use Rattle.text.specs.Words.{Piece, words}
+use Rattle.book.specs.Runs.{an_offer, a_load, a_strike}
+use Rattle.chart.specs.Runs.{a_feed, a_withdraw}
 use Rattle.book.specs.Fits.{CardFits, card_test}
 use Rattle.programs.specs.Output.{line_texts, LinesAre}
-use Rattle.programs.specs.Scripts.{Script}
-use Rattle.programs.specs.Spelling.{Spelling, bytes_spelling, cards_spelling}
-use Rattle.programs.specs.ScriptLines.{Item, a_book_call, rules_follow, line_said, nothing_said, may_come, with_item, rules_of, read}
+use Rattle.programs.specs.Scripts.{a_call, a_total, a_reading, Script}
+use Rattle.programs.specs.Spelling.{Spelling, word_texts, bytes_spelling, cards_spelling}
+use Rattle.programs.specs.ScriptLines.{Item, patterns, a_book_call, rules_follow, weights, nodes, a_chart_line, line_said, nothing_said, may_come, with_item, rules_of, read}
 use Rattle.programs.specs.ScriptOutput.{Part, part, parts}
 use Rattle.programs.specs.Printed.{PrintMeans}
 use Rattle.programs.specs.declared.script.fault.Cause.{Cause}
@@ -28,6 +31,35 @@ pub data Parted : ℕ → List (List ℕ) → List Part → Type 0 where
 -- the line says this
 abbrev pub Says : {P E : Type 0} → Spelling P E → List ℕ → Item P E → Type 0
 Says S w i = line_said S w ≡ Ok (Some i)
+
+-- a word says this number, within a limit: its bytes are digits, in base ten
+abbrev pub SaysNumber : ℕ → List ℕ → ℕ → Type 0
+SaysNumber limit w n = (all_digits w ≡ true) × (decimal w ≡ n) × (n ≤ limit)
+
+-- words say these numbers, each its own
+abbrev pub SayNumbers : ℕ → List (List ℕ) → List ℕ → Type 0
+SayNumbers limit [] [] = Unit {0}
+SayNumbers limit (w ∷ ws) (n ∷ ns) = SaysNumber limit w n × SayNumbers limit ws ns
+SayNumbers limit _ _ = ⊥
+
+-- one word, which says this number
+abbrev pub OneNumber : ℕ → List (List ℕ) → ℕ → Type 0
+OneNumber limit ws n = (w : List ℕ) × (ws ≡ w ∷ []) × SaysNumber limit w n
+
+-- the words ws of a line w say this
+abbrev pub WordsSay : {P E : Type 0} → Spelling P E → List ℕ → List Piece → Item P E → Type 0
+WordsSay S w ws (patterns ps) = (vs : List (List ℕ)) × (word_texts ws ≡ S.name ∷ vs) × (S.patterns vs ≡ Some ps)
+WordsSay S w ws (a_book_call (an_offer head items cost)) =
+    (h : List ℕ) × ((c : List ℕ) × ((is : List (List ℕ)) × (word_texts ws ≡ codes "offer" ∷ (h ∷ (c ∷ is))) × SaysNumber 255 h head × SaysNumber 65535 c cost × SayNumbers 255 is items))
+WordsSay S w ws (a_book_call (a_load text)) = (v : Piece) × ((u : Piece) × ((us : List Piece) × (ws ≡ v ∷ (u ∷ us)) × (v.bytes ≡ codes "load") × (text ≡ drop u.place w)))
+WordsSay S w ws (a_book_call a_strike) = word_texts ws ≡ codes "strike" ∷ []
+WordsSay S w ws rules_follow = word_texts ws ≡ codes "load" ∷ []
+WordsSay S w ws (weights n) = (vs : List (List ℕ)) × (word_texts ws ≡ codes "weights" ∷ vs) × OneNumber 4210688 vs n
+WordsSay S w ws (nodes n) = (vs : List (List ℕ)) × (word_texts ws ≡ codes "nodes" ∷ vs) × OneNumber 65536 vs n
+WordsSay S w ws (a_chart_line (a_call (a_feed e))) = (vs : List (List ℕ)) × (word_texts ws ≡ codes "feed" ∷ vs) × (S.event vs ≡ Some e)
+WordsSay S w ws (a_chart_line (a_call (a_withdraw k))) = (vs : List (List ℕ)) × (word_texts ws ≡ codes "withdraw" ∷ vs) × OneNumber 4294967295 vs k
+WordsSay S w ws (a_chart_line a_total) = word_texts ws ≡ codes "total" ∷ []
+WordsSay S w ws (a_chart_line a_reading) = word_texts ws ≡ codes "reading" ∷ []
 
 -- none of these lines is end alone
 abbrev pub NoEndAmong : List (List ℕ) → Type 0
@@ -100,6 +132,9 @@ ReadMeans S n s ws (Err (m, c)) = LineRefused S n s ws m c ⊎ EndMissed S n s w
 
 -- what is meant by what is read of the lines of a script, the first of number n, and by what is printed for it
 pub record PartMeans {P E : Type 0} (S : Spelling P E) (fits : P → E → Type 0) (test : P → E → Bool) (n : ℕ) (ls : List (List ℕ)) : Type 0 where
+  -- a line says just what its words say, and nothing exactly if it has none
+  pub each_line : (w : List ℕ) (i : Item P E) → WordsSay S w (words 0 w) i ↔ Says S w i
+  pub no_words : (w : List ℕ) → (words 0 w ≡ []) ↔ (line_said S w ≡ Ok None)
   -- the script that is read is the one that the lines say, and they say no other
   pub script : (t : Script P E) → SayScript S ls t ↔ (read S n ls ≡ Ok t)
   -- a fault is that of a line that is wrong behind those before it, which say a script; or of a load without end

@@ -20,10 +20,7 @@ pub(crate) trait Spelled: Alphabet {
         ensures { result.now ≡ spelling.name };
 
     // The patterns that the words after it say, if they say patterns.
-    fn patterns(
-        heap: Global,
-        words: Words<'_>,
-    ) -> Result<Option<Vec<Self::Pattern>>, AllocError>
+    fn patterns(heap: Global, words: Words<'_>) -> Result<Option<Vec<Self::Pattern>>, AllocError>
         ensures { IfOk result (λ o. option_map (λ v. v.items) o ≡ spelling.patterns (texts_left words.entry)) };
 
     // The event that words say, if they say one.

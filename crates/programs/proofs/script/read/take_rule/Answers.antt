@@ -1,8 +1,7 @@
 use Rattle.std.proofs.Common.{◌≡◌, ◌++◌, [], ◌∷◌, true, false, map, take, drop, None, Some, sym, ap, ◌∙◌}
-use Rattle.std.specs.Prelude.{option_map, codes}
+use Rattle.std.specs.Prelude.{option_map}
 use Rattle.std.proofs.lemmas.Bool.{cond-true, cond-false}
 use Rattle.std.proofs.lemmas.List.{map-append}
-use Rattle.grammar.specs.Lists.{same_numbers}
 use Rattle.book.specs.Runs.{a_load}
 use Rattle.programs.specs.Said.{book_line, script_said}
 use Rattle.programs.specs.ScriptLines.{so_far, with_item, a_book_call, is_end}
