@@ -8,3 +8,11 @@ pub mod ScriptLines
 pub mod ScriptMeaning
 pub mod TakenNodes
 pub mod Texts
+pub mod ScriptWords
+pub mod ScriptSaying
+pub mod ScriptReading
+pub mod ScriptParts
+pub mod ScriptLaw
+pub mod ScriptCosts
+pub mod ScriptMeant
+pub mod ScriptWording

@@ -73,7 +73,7 @@ some_stretch [] rest h e f = absurd (omega arith)
 some_stretch (b ∷ w) rest h e f = ap (λ r. line_texts ((b ∷ w) ++ r)) e ∙ ap line_texts (append-nil (b ∷ w)) ∙ texts_last b w f ∙ ap (λ l. (b ∷ w) ∷ l) (sym (ap line_texts e ∙ texts_none))
 
 -- the line from a place to its end
-texts_at : (xs : List ℕ) (from e : ℕ) → from < length xs → IsLineEnd xs from e → line_texts (drop from xs) ≡ stretch xs from e ∷ line_texts (drop (e + 1) xs)
+pub texts_at : (xs : List ℕ) (from e : ℕ) → from < length xs → IsLineEnd xs from e → line_texts (drop from xs) ≡ stretch xs from e ∷ line_texts (drop (e + 1) xs)
 texts_at xs from e h is =
     let low : from ≤ e = omega (arith, is.later) in
     let w = stretch xs from e in

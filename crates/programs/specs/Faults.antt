@@ -1,5 +1,6 @@
 -- What is printed for a script that is not run.
 use Rattle.std.specs.Prelude.{ℕ, List, ◌++◌, Option, Some, None, codes, decimal}
+use Rattle.std.specs.declared.alloc.AllocError.{AllocError}
 use Rattle.programs.specs.declared.script.fault.Cause.{Cause}
 use Rattle.programs.specs.declared.script.fault.Cause.TheVariants.{NoAlphabet, UnknownLine, OtherWords, OutOfPlace, NoEnd}
 use Rattle.programs.specs.declared.script.fault.ScriptFault.{ScriptFault}
@@ -21,3 +22,7 @@ malformed_text number cause = codes "line " ++ (decimal number ++ (codes ": " ++
 abbrev pub script_fault_text : ScriptFault → Option (List ℕ)
 script_fault_text (Line number cause) = Some (malformed_text number cause)
 script_fault_text (NoMemory e) = None
+
+-- the allocator's error, as the script's
+abbrev pub no_memory : AllocError → ScriptFault
+no_memory e = NoMemory e

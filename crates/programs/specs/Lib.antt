@@ -5,3 +5,8 @@ pub mod Said
 pub mod Printed
 pub mod Faults
 pub mod Calls
+pub mod ScriptLines
+pub mod ScriptSaid
+pub mod Spelling
+pub mod ScriptOutput
+pub mod ScriptMeans

@@ -13,7 +13,7 @@ pub struct Parts<'i> {
 }
 
 // Whether a line is % alone.
-fn divides(line: Line<'_>) -> bool
+pub(crate) fn divides(line: Line<'_>) -> bool
     ensures { result ≡ same_numbers (drop line.entry.from line.entry.text.now) (37 ∷ []) }
 {
     line.bytes() == b"%".as_slice()

@@ -1,6 +1,6 @@
 // Why a script is not run.
-ghost use Rattle.std.specs.Prelude.{Some};
-ghost use Rattle.programs.specs.Faults.{cause_text, script_fault_text};
+ghost use Rattle.std.specs.Prelude.{◌≡◌, Some};
+ghost use Rattle.programs.specs.Faults.{cause_text, script_fault_text, no_memory};
 
 use std::alloc::AllocError;
 use std::error::Error;
@@ -58,6 +58,8 @@ impl fmt::Display for ScriptFault {
 impl Error for ScriptFault {}
 
 impl From<AllocError> for ScriptFault {
+    ghost from_gives = { λ e f. f ≡ no_memory e };
+
     fn from(error: AllocError) -> ScriptFault {
         ScriptFault::NoMemory(error)
     }

@@ -1,17 +1,16 @@
 // A script as it is read, line by line.
+ghost use Rattle.std.specs.Prelude.{◌≡◌, ◌+◌, ◌<◌, ◌≤◌, ◌^◌, ◌∷◌, [], ◌++◌, IfSome, OnOk, option_map, drop, take, length};
+ghost use Rattle.programs.specs.Output.{line_texts};
+ghost use Rattle.programs.specs.Said.{script_said};
+ghost use Rattle.programs.specs.ScriptLines.{may_come, with_item, rules_of, behind_said, behind_rules, behind_line, nothing_said, line_said, read};
+ghost use Rattle.programs.specs.ScriptSaid.{item_of, LineGives, read_so_far, ScriptGives};
+
 use crate::script::fault::{Cause, ScriptFault};
-use crate::script::lines::{BookLine, ChartLine, Question, Script, Sizes};
+use crate::script::lines::{BookLine, Script, Sizes};
+use crate::script::said::{Said, line_said, same};
 use crate::script::spelled::Spelled;
-use crate::script::words::{byte, cost, one_number};
-use replay::call::ChartCall;
 use std::alloc::{AllocError, Global};
 use text::lines::{Line, Lines};
-
-// The longest table of weights: of 128 symbols and 256 events.
-pub const WEIGHTS: u32 = 4_210_688;
-
-// The longest table of nodes: one more than are ever written.
-pub const NODES: u32 = 65_536;
 
 // A part of the input: its text, and the number of its first line.
 #[derive(Clone, Copy)]
@@ -20,204 +19,115 @@ pub(crate) struct Part<'t> {
     pub(crate) first: usize,
 }
 
-// The offer that words say.
-fn offer<'t>(heap: Global, words: &[&[u8]]) -> Result<Option<BookLine<'t>>, AllocError> {
-    let [head, price, others @ ..] = words else {
-        return Ok(None);
-    };
-    let (Some(head), Some(cost)) = (byte(head), cost(price)) else {
-        return Ok(None);
-    };
-    let mut items = Vec::new(heap);
-    for word in others {
-        let Some(item) = byte(word) else {
-            return Ok(None);
-        };
-        items.push(item)?;
-    }
-    Ok(Some(BookLine::Offer { head, items, cost }))
-}
-
-// What a line begins with.
-#[derive(Clone, Copy, PartialEq, Eq)]
-enum First {
-    Patterns,
-    Offer,
-    Load,
-    Strike,
-    Weights,
-    Nodes,
-    Feed,
-    Withdraw,
-    Total,
-    Reading,
-}
-
-// What a line that begins with this word is.
-fn first_of<A: Spelled>(word: &[u8]) -> Option<First> {
-    if A::begins_patterns(word) {
-        return Some(First::Patterns);
-    }
-    match word {
-        b"offer" => Some(First::Offer),
-        b"load" => Some(First::Load),
-        b"strike" => Some(First::Strike),
-        b"weights" => Some(First::Weights),
-        b"nodes" => Some(First::Nodes),
-        b"feed" => Some(First::Feed),
-        b"withdraw" => Some(First::Withdraw),
-        b"total" => Some(First::Total),
-        b"reading" => Some(First::Reading),
-        _ => None,
-    }
-}
-
 // A script that is being read.
 #[derive(Drop)]
-struct Reader<'t, A: Spelled> {
-    heap: Global,
-    // the number of the line
-    number: usize,
+pub(crate) struct Reader<'t, P, E> {
+    pub(crate) script: Script<'t, P, E>,
     // where the rules of a load begin whose end is still to come
-    rules: Option<usize>,
-    script: Script<'t, A::Pattern, A::Event>,
+    pub(crate) rules: Option<usize>,
 }
 
-impl<'t, A: Spelled> Reader<'t, A> {
-    // The fault of the line.
-    fn fault(&self, cause: Cause) -> ScriptFault {
-        ScriptFault::Line(self.number, cause)
+// A script of which nothing is said yet.
+fn nothing_said<'t, P, E>(heap: Global) -> Script<'t, P, E>
+    ensures { script_said result ≡ nothing_said }
+{
+    Script {
+        patterns: Vec::new(heap),
+        book: Vec::new(heap),
+        sizes: Sizes {
+            weights: 0,
+            nodes: 0,
+        },
+        chart: Vec::new(heap),
     }
+}
 
-    // Takes in a line.
-    fn line(&mut self, line: Line<'t>) -> Result<(), ScriptFault> {
-        if let Some(from) = self.rules {
-            return Ok(self.rule_line(line, from)?);
-        }
-        let words: Vec<&[u8]> = line.words().map(|word| word.bytes).collect(self.heap)?;
-        let Some((word, others)) = words.split_first() else {
-            return Ok(());
-        };
-        let first = first_of::<A>(word).ok_or(self.fault(Cause::UnknownLine))?;
-        if self.comes_late(first) {
-            return Err(self.fault(Cause::OutOfPlace));
-        }
-        if self.says(first, line, others)? {
-            Ok(())
-        } else {
-            Err(self.fault(Cause::OtherWords))
-        }
+// Whether a line may say this behind the lines of this script: patterns come before the book's calls, and these and the sizes before the
+// chart's lines.
+fn may_come<P, E>(script: &Script<'_, P, E>, said: &Said<'_, P, E>) -> bool
+    ensures { result ≡ may_come (script_said script.now) (item_of said.now) }
+{
+    match said {
+        Said::Patterns(_) => script.book.is_empty() && script.chart.is_empty(),
+        Said::Chart(_) => true,
+        _ => script.chart.is_empty(),
     }
+}
 
-    // Takes in a line of the rules that a load began, or their end.
-    fn rule_line(&mut self, line: Line<'t>, from: usize) -> Result<(), AllocError> {
-        if line.bytes() == b"end".as_slice() {
-            let rules = line.text.get(from..line.from).unwrap_or(&[]);
-            self.script.book.push(BookLine::Load(rules))?;
-            self.rules = None;
-        }
-        Ok(())
+// Takes in what a line says; the line after it begins at a place.
+fn take<'t, P: Copy, E: Copy>(
+    reader: &mut Reader<'t, P, E>,
+    said: Said<'t, P, E>,
+    next: usize,
+) -> Result<(), AllocError>
+    requires { reader.old.rules ≡ None }
+    ensures script { OnOk result (script_said reader.new.script ≡ with_item (script_said reader.old.script) (item_of said.entry)) }
+    ensures rules { OnOk result (reader.new.rules ≡ option_map (λ _. next) (rules_of (item_of said.entry))) }
+{
+    match said {
+        Said::Patterns(patterns) => reader.script.patterns.extend_from_slice(&patterns)?,
+        Said::Call(call) => reader.script.book.push(call)?,
+        Said::Rules => reader.rules = Some(next),
+        Said::Weights(weights) => reader.script.sizes.weights = weights,
+        Said::Nodes(nodes) => reader.script.sizes.nodes = nodes,
+        Said::Chart(line) => reader.script.chart.push(line)?,
     }
+    Ok(())
+}
 
-    // Whether such a line may not come any more: patterns come before the book's calls, and these and the sizes before the chart's.
-    fn comes_late(&self, first: First) -> bool {
-        match first {
-            First::Patterns => !self.script.book.is_empty() || !self.script.chart.is_empty(),
-            First::Offer | First::Load | First::Strike | First::Weights | First::Nodes => {
-                !self.script.chart.is_empty()
-            }
-            First::Feed | First::Withdraw | First::Total | First::Reading => false,
-        }
+// Takes in the line of a number that stands in no load's rules.
+fn take_said<'t, A: Spelled>(
+    heap: Global,
+    reader: &mut Reader<'t, A::Pattern, A::Event>,
+    number: usize,
+    line: Line<'t>,
+) -> Result<(), ScriptFault>
+    requires { reader.old.rules ≡ None }
+    ensures gives { LineGives number (λ _. read_so_far (line.entry.text.now ++ (10 ∷ [])) reader.new) result (behind_said (script_said reader.old.script) (line_said A.Spelled.spelling (drop line.entry.from line.entry.text.now))) }
+    ensures within { OnOk result (IfSome reader.new.rules (λ from. from ≤ length line.entry.text.now + 1)) }
+{
+    let Some(said) = line_said::<A>(heap, number, line)? else {
+        return Ok(());
+    };
+    if !may_come(&reader.script, &said) {
+        return Err(ScriptFault::Line(number, Cause::OutOfPlace));
     }
+    Ok(take(reader, said, line.text.len() + 1)?)
+}
 
-    // Takes in what a line says: whether its words are those that it wants.
-    fn says(&mut self, first: First, line: Line<'t>, words: &[&[u8]]) -> Result<bool, AllocError> {
-        match first {
-            First::Patterns => A::add_patterns(&mut self.script.patterns, words),
-            First::Offer => self.offer(words),
-            First::Load => self.load(line),
-            First::Strike => self.strike(words),
-            First::Weights | First::Nodes => Ok(self.size(first, words)),
-            First::Feed => self.feed(words),
-            First::Withdraw => self.withdraw(words),
-            First::Total => self.ask(Question::Total, words),
-            First::Reading => self.ask(Question::Reading, words),
-        }
+// Takes in a line of the rules that a load began at a place, or their end.
+fn take_rule<'t, P: Drop, E: Drop>(
+    reader: &mut Reader<'t, P, E>,
+    line: Line<'t>,
+    from: usize,
+) -> Result<(), AllocError>
+    requires begun { reader.old.rules ≡ Some from }
+    requires before { from ≤ line.from }
+    ensures gives { OnOk result (read_so_far (line.entry.text.now ++ (10 ∷ [])) reader.new ≡ behind_rules (script_said reader.old.script) (drop from (take line.entry.from line.entry.text.now)) (drop line.entry.from line.entry.text.now)) }
+    ensures within { OnOk result (IfSome reader.new.rules (λ from. from ≤ length line.entry.text.now + 1)) }
+{
+    if same(line.bytes(), b"end") {
+        let rules = &line.text[from..line.from];
+        reader.script.book.push(BookLine::Load(rules))?;
+        reader.rules = None;
     }
+    Ok(())
+}
 
-    fn offer(&mut self, words: &[&[u8]]) -> Result<bool, AllocError> {
-        let Some(offer) = offer(self.heap, words)? else {
-            return Ok(false);
-        };
-        self.script.book.push(offer)?;
-        Ok(true)
-    }
-
-    // A rule in the same line, or the beginning of lines of rules.
-    fn load(&mut self, line: Line<'t>) -> Result<bool, AllocError> {
-        let mut words = line.words();
-        words.next();
-        match words.next() {
-            Some(word) => {
-                let rule = line.text.get(word.place..).unwrap_or(&[]);
-                self.script.book.push(BookLine::Load(rule))?;
-            }
-            None => self.rules = Some(line.text.len() + 1),
-        }
-        Ok(true)
-    }
-
-    fn strike(&mut self, words: &[&[u8]]) -> Result<bool, AllocError> {
-        if !words.is_empty() {
-            return Ok(false);
-        }
-        self.script.book.push(BookLine::Strike)?;
-        Ok(true)
-    }
-
-    // The size of a table.
-    fn size(&mut self, first: First, words: &[&[u8]]) -> bool {
-        let limit = if first == First::Nodes {
-            NODES
-        } else {
-            WEIGHTS
-        };
-        let Some(size) = one_number(words, limit) else {
-            return false;
-        };
-        if first == First::Nodes {
-            self.script.sizes.nodes = size;
-        } else {
-            self.script.sizes.weights = size;
-        }
-        true
-    }
-
-    fn feed(&mut self, words: &[&[u8]]) -> Result<bool, AllocError> {
-        match A::event(words) {
-            Some(event) => self.chart_line(ChartLine::Call(ChartCall::Feed(event))),
-            None => Ok(false),
-        }
-    }
-
-    fn withdraw(&mut self, words: &[&[u8]]) -> Result<bool, AllocError> {
-        match one_number(words, u32::MAX) {
-            Some(count) => self.chart_line(ChartLine::Call(ChartCall::Withdraw(count))),
-            None => Ok(false),
-        }
-    }
-
-    // What is asked takes no words.
-    fn ask(&mut self, question: Question, words: &[&[u8]]) -> Result<bool, AllocError> {
-        if !words.is_empty() {
-            return Ok(false);
-        }
-        self.chart_line(ChartLine::Ask(question))
-    }
-
-    fn chart_line(&mut self, line: ChartLine<A::Event>) -> Result<bool, AllocError> {
-        self.script.chart.push(line)?;
-        Ok(true)
+// Takes in the line of a number.
+fn take_line<'t, A: Spelled>(
+    heap: Global,
+    reader: &mut Reader<'t, A::Pattern, A::Event>,
+    number: usize,
+    line: Line<'t>,
+) -> Result<(), ScriptFault>
+    requires { IfSome reader.old.rules (λ from. from ≤ line.from) }
+    ensures gives { LineGives number (λ _. read_so_far (line.entry.text.now ++ (10 ∷ [])) reader.new) result (behind_line A.Spelled.spelling (read_so_far (take line.entry.from line.entry.text.now) reader.old) (drop line.entry.from line.entry.text.now)) }
+    ensures within { OnOk result (IfSome reader.new.rules (λ from. from ≤ length line.entry.text.now + 1)) }
+{
+    match reader.rules {
+        Some(from) => Ok(take_rule(reader, line, from)?),
+        None => take_said::<A>(heap, reader, number, line),
     }
 }
 
@@ -225,27 +135,21 @@ impl<'t, A: Spelled> Reader<'t, A> {
 pub(crate) fn read<'t, A: Spelled>(
     heap: Global,
     part: Part<'t>,
-) -> Result<Script<'t, A::Pattern, A::Event>, ScriptFault> {
-    let mut reader = Reader::<A> {
-        heap,
-        number: part.first,
+) -> Result<Script<'t, A::Pattern, A::Event>, ScriptFault>
+    requires { part.first + length part.text.now < 2 ^ 63 }
+    ensures { ScriptGives script_said result (read A.Spelled.spelling part.entry.first (line_texts part.entry.text.now)) }
+{
+    let mut reader = Reader {
+        script: nothing_said(heap),
         rules: None,
-        script: Script {
-            patterns: Vec::new(heap),
-            book: Vec::new(heap),
-            sizes: Sizes {
-                weights: 0,
-                nodes: 0,
-            },
-            chart: Vec::new(heap),
-        },
     };
+    let mut number = part.first;
     for line in Lines::of(part.text) {
-        reader.line(line)?;
-        reader.number = reader.number.saturating_add(1);
+        take_line::<A>(heap, &mut reader, number, line)?;
+        number += 1;
     }
     if reader.rules.is_some() {
-        return Err(reader.fault(Cause::NoEnd));
+        return Err(ScriptFault::Line(number, Cause::NoEnd));
     }
     Ok(reader.script)
 }
