@@ -4,7 +4,7 @@ use Rattle.std.specs.Prelude.{option_map, option_and_then, ok_or}
 use Rattle.std.proofs.lemmas.Bool.{and_parts, leb-true}
 use Rattle.std.proofs.lemmas.Option.{cond_some}
 use Rattle.grammar.proofs.Lists.{mem_append}
-use Rattle.text.specs.Numbers.{all_digits, decimal}
+use Rattle.text.specs.Numbers.{all_digits, said_number}
 use Rattle.text.specs.Words.{Piece, words}
 use Rattle.book.specs.Runs.{Call, an_offer, a_load, a_strike}
 use Rattle.chart.specs.Runs.{a_feed, a_withdraw}
@@ -20,12 +20,12 @@ use Rattle.programs.specs.declared.script.said.First.{First}
 use Rattle.programs.specs.declared.script.said.First.TheVariants.{Patterns, Offer, Load, Strike, Weights, Nodes, Feed, Withdraw, Total, Reading}
 
 -- a number that is said is within its limit
-pub number_within : (limit : ℕ) (w : List ℕ) (n : ℕ) → number_said limit w ≡ Some n → (all_digits w ≡ true) × (decimal w ≡ n) × (n ≤ limit)
+pub number_within : (limit : ℕ) (w : List ℕ) (n : ℕ) → number_said limit w ≡ Some n → (all_digits w ≡ true) × (said_number w ≡ n) × (n ≤ limit)
 unfolding number_said
 number_within limit w n e =
-    let c = cond_some (all_digits w && leb (decimal w) limit) (decimal w) n e in
-    let p = and_parts (all_digits w) (leb (decimal w) limit) c.0 in
-    (p.0, c.1, subst (λ k. k ≤ limit) c.1 (leb-true (decimal w) limit p.1))
+    let c = cond_some (all_digits w && leb (said_number w) limit) (said_number w) n e in
+    let p = and_parts (all_digits w) (leb (said_number w) limit) c.0 in
+    (p.0, c.1, subst (λ k. k ≤ limit) c.1 (leb-true (said_number w) limit p.1))
 
 -- what holds of what f gives by every number within the limit
 by_within : {A : Type 0} (Q : Option A → Type 0) (limit : ℕ) (f : ℕ → List (List ℕ) → Option A) (ws : List (List ℕ)) → Q None → ((n : ℕ) (vs : List (List ℕ)) → n ≤ limit → Q (f n vs)) → Q (by_number limit f ws)

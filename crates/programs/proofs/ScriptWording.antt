@@ -3,7 +3,7 @@ use Rattle.std.specs.Prelude.{◌↔◌, IfSome, codes, option_map, option_and_t
 use Rattle.std.proofs.Common.{◌≡◌, ℕ, ◌≤◌, cond, ◌&&◌, leb, List, [], ◌∷◌, Some, None, Ok, Option, sym, refl, ap, ◌∙◌, subst, arith}
 use Rattle.std.proofs.lemmas.Bool.{cond_both, cond-true, le-leb}
 use Rattle.grammar.specs.Lists.{same_numbers}
-use Rattle.text.specs.Numbers.{all_digits, decimal}
+use Rattle.text.specs.Numbers.{all_digits, said_number}
 use Rattle.text.specs.Words.{Piece, words}
 use Rattle.book.specs.Runs.{an_offer, a_load, a_strike}
 use Rattle.chart.specs.Runs.{a_feed, a_withdraw}
@@ -22,8 +22,8 @@ use Rattle.programs.specs.declared.script.said.First.TheVariants.{Patterns, Offe
 number_is : (limit : ℕ) (w : List ℕ) (n : ℕ) → SaysNumber limit w n → number_said limit w ≡ Some n
 unfolding number_said
 number_is limit w n (d, e, l) =
-    let low : decimal w ≤ limit = omega (arith, e, l) in
-    cond-true (all_digits w && leb (decimal w) limit) (Some (decimal w)) None (ap (λ b. b && leb (decimal w) limit) d ∙ le-leb (decimal w) limit low) ∙ ap Some e
+    let low : said_number w ≤ limit = omega (arith, e, l) in
+    cond-true (all_digits w && leb (said_number w) limit) (Some (said_number w)) None (ap (λ b. b && leb (said_number w) limit) d ∙ le-leb (said_number w) limit low) ∙ ap Some e
 
 numbers_are : (limit : ℕ) (ws : List (List ℕ)) (ns : List ℕ) → SayNumbers limit ws ns → numbers_said limit ws ≡ Some ns
 unfolding numbers_said

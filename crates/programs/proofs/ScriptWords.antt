@@ -2,20 +2,20 @@
 use Rattle.std.proofs.Common.{◌≡◌, ℕ, ◌<◌, ◌≤◌, true, false, ◌&&◌, leb, List, [], ◌∷◌, ◌++◌, Some, None, Option, sym, refl, ap, ◌∙◌, append_assoc, append-nil, arith}
 use Rattle.std.specs.Prelude.{MatchOption, option_map, option_and_then}
 use Rattle.std.proofs.lemmas.Bool.{cond-true, cond-false, le-leb, lt-leb}
-use Rattle.text.specs.Numbers.{all_digits, decimal}
+use Rattle.text.specs.Numbers.{all_digits, said_number}
 use Rattle.programs.specs.Spelling.{number_said, first_number, numbers_said}
 
 -- a word of other bytes says none
 pub no_digits : (limit : ℕ) (w : List ℕ) → all_digits w ≡ false → None ≡ number_said limit w
 unfolding number_said
-no_digits limit w f = sym (cond-false (all_digits w && leb (decimal w) limit) (Some (decimal w)) None (ap (λ b. b && leb (decimal w) limit) f))
+no_digits limit w f = sym (cond-false (all_digits w && leb (said_number w) limit) (Some (said_number w)) None (ap (λ b. b && leb (said_number w) limit) f))
 
 -- a word of digits says its number, within the limit
-pub of_digits : (limit : ℕ) (w : List ℕ) (r : Option ℕ) → all_digits w ≡ true → MatchOption r (limit < decimal w) (λ n. (n ≡ decimal w) × (n ≤ limit)) → r ≡ number_said limit w
+pub of_digits : (limit : ℕ) (w : List ℕ) (r : Option ℕ) → all_digits w ≡ true → MatchOption r (limit < said_number w) (λ n. (n ≡ said_number w) × (n ≤ limit)) → r ≡ number_said limit w
 unfolding number_said
-of_digits limit w None t h = sym (cond-false (all_digits w && leb (decimal w) limit) (Some (decimal w)) None (ap (λ b. b && leb (decimal w) limit) t ∙ lt-leb (decimal w) limit h))
+of_digits limit w None t h = sym (cond-false (all_digits w && leb (said_number w) limit) (Some (said_number w)) None (ap (λ b. b && leb (said_number w) limit) t ∙ lt-leb (said_number w) limit h))
 of_digits limit w (Some n) t (e, l) =
-    ap Some e ∙ sym (cond-true (all_digits w && leb (decimal w) limit) (Some (decimal w)) None (ap (λ b. b && leb (decimal w) limit) t ∙ le-leb (decimal w) limit (let m : decimal w ≤ limit = omega (arith, e, l) in m)))
+    ap Some e ∙ sym (cond-true (all_digits w && leb (said_number w) limit) (Some (said_number w)) None (ap (λ b. b && leb (said_number w) limit) t ∙ le-leb (said_number w) limit (let m : said_number w ≤ limit = omega (arith, e, l) in m)))
 
 -- no word says no number
 pub none_first : (limit : ℕ) (ws : List (List ℕ)) → ws ≡ [] → first_number limit ws ≡ None

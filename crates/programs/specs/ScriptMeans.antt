@@ -1,7 +1,7 @@
 -- What the definition of the script program's output means.
 use Rattle.std.specs.Prelude.{◌≡◌, ◌≢◌, ◌↔◌, ◌⊎◌, ℕ, suc, ◌+◌, Bool, true, false, List, [], ◌∷◌, ◌++◌, length, Some, None, Ok, Err, Result, nat_eq, codes, ◌≤◌, drop}
 use Rattle.grammar.specs.Lists.{Mem, each}
-use Rattle.text.specs.Numbers.{all_digits, decimal}
+use Rattle.text.specs.Numbers.{all_digits, said_number}
 use Rattle.text.specs.Words.{Piece, words}
 use Rattle.book.specs.Runs.{an_offer, a_load, a_strike}
 use Rattle.chart.specs.Runs.{a_feed, a_withdraw}
@@ -34,7 +34,7 @@ Says S w i = line_said S w ≡ Ok (Some i)
 
 -- a word says this number, within a limit: its bytes are digits, in base ten
 abbrev pub SaysNumber : ℕ → List ℕ → ℕ → Type 0
-SaysNumber limit w n = (all_digits w ≡ true) × (decimal w ≡ n) × (n ≤ limit)
+SaysNumber limit w n = (all_digits w ≡ true) × (said_number w ≡ n) × (n ≤ limit)
 
 -- words say these numbers, each its own
 abbrev pub SayNumbers : ℕ → List (List ℕ) → List ℕ → Type 0

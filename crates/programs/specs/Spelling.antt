@@ -1,7 +1,7 @@
 -- How the words of a script's lines spell numbers, patterns and events.
 use Rattle.std.specs.Prelude.{ℕ, cond, ◌&&◌, List, [], ◌∷◌, map, Some, None, Option, option_map, option_and_then, nat_le, codes}
 use Rattle.grammar.specs.Lists.{each}
-use Rattle.text.specs.Numbers.{all_digits, decimal}
+use Rattle.text.specs.Numbers.{all_digits, said_number}
 use Rattle.text.specs.Words.{Piece}
 use Rattle.text.specs.Turns.{words_left}
 use Rattle.text.specs.declared.words.Words.{Words}
@@ -18,7 +18,7 @@ texts_left s = word_texts (words_left s)
 
 -- the number that a word says, if its bytes are digits and it is within a limit
 unfoldable pub number_said : ℕ → List ℕ → Option ℕ
-number_said limit w = cond (all_digits w && nat_le (decimal w) limit) (Some (decimal w)) None
+number_said limit w = cond (all_digits w && nat_le (said_number w) limit) (Some (said_number w)) None
 
 -- the number that the first word says, and the words behind it
 unfoldable pub first_number : ℕ → List (List ℕ) → Option (ℕ × List (List ℕ))
