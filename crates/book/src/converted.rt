@@ -1,5 +1,5 @@
 // Rules together with their strict form.
-ghost use Rattle.std.specs.Prelude.{◌≡◌, ◌<◌, ◌≤◌, map};
+ghost use Rattle.std.specs.Prelude.{◌≡◌, ◌<◌, ◌≤◌, ◌⊎◌, None, map};
 ghost use Rattle.grammar.specs.Binarise.{binarised};
 ghost use Rattle.grammar.specs.Strict.{strict_rules};
 ghost use Rattle.conversion.specs.Forms.{FormOf};
@@ -61,9 +61,10 @@ impl Converted {
         self.form.brought(symbol)
     }
 
-    // The chosen chain from one symbol to another, if one leads there.
+    // The chosen chain from one symbol to another, if one leads there. There are no symbols from 128 on.
     pub fn chain(&self, from: u8, to: u8) -> Option<Chain>
-        ensures { from < 128 → to < 128 → Chosen (binarised (rules_book self.now.rules)) from to result }
+        ensures means { from < 128 → to < 128 → Chosen (binarised (rules_book self.now.rules)) from to result }
+        ensures beyond { (128 ≤ from) ⊎ (128 ≤ to) → result ≡ None }
     {
         self.form.chain(from, to)
     }

@@ -5,8 +5,8 @@ use Rattle.book.specs.Rules.{rules_book}
 use Rattle.book.proofs.Formed.{form_of}
 use Rattle.book.proofs.converted.Converted.chain.Goals as goal
 
-pub returns : goal.returns
-returns c low high =
+pub returns-clause-means : goal.returns-clause-means
+returns-clause-means c low high =
     let k = c.args.self.now in
     let W = rules_book k.rules in
     let x = c.args.from in
