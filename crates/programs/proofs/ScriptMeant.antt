@@ -14,7 +14,7 @@ use Rattle.programs.specs.declared.script.fault.Cause.{Cause}
 use Rattle.programs.proofs.Parts.{lines_law}
 use Rattle.programs.proofs.ScriptLaw.{same_is, same_self, over, on_wrong, read_means}
 use Rattle.programs.proofs.ScriptCosts.{all_cheap}
-use Rattle.programs.proofs.ScriptWording.{Apart, bytes_apart, cards_apart, line_law, none_law}
+use Rattle.programs.proofs.ScriptWording.{Apart, bytes_apart, cards_apart, line_law, none_law, unknown_law}
 use Rattle.programs.proofs.ScriptMeaning.{print_means}
 
 -- The scripts of an input
@@ -67,6 +67,7 @@ module _ {P E : Type 0} (S : Spelling P E) where
   part_means fits test tested apart n ls = record {
     each_line = line_law S apart;
     no_words = none_law S;
+    unknown = unknown_law S apart;
     script = λ t. (said_read n ls t, read_said n ls t);
     fault = λ m c e. subst (ReadMeans S n nothing_said ls) e (read_means S n nothing_said ls);
     no_longer = refused n ls;

@@ -1,8 +1,8 @@
 -- What one line of a script says, by its words.
 use Rattle.std.specs.Prelude.{◌↔◌, IfSome, codes, option_map, option_and_then, ok_or}
-use Rattle.std.proofs.Common.{◌≡◌, ℕ, ◌≤◌, cond, ◌&&◌, leb, List, [], ◌∷◌, Some, None, Ok, Option, sym, refl, ap, ◌∙◌, subst, arith}
+use Rattle.std.proofs.Common.{◌≡◌, ℕ, ◌≤◌, cond, ◌&&◌, leb, List, [], ◌∷◌, Some, None, Ok, Err, Option, sym, refl, ap, ◌∙◌, subst, inl, inr, arith}
 use Rattle.std.proofs.lemmas.Bool.{cond_both, cond-true, le-leb}
-use Rattle.grammar.specs.Lists.{same_numbers}
+use Rattle.grammar.specs.Lists.{Mem, same_numbers}
 use Rattle.text.specs.Numbers.{all_digits, said_number}
 use Rattle.text.specs.Words.{Piece, words}
 use Rattle.book.specs.Runs.{an_offer, a_load, a_strike}
@@ -10,10 +10,10 @@ use Rattle.chart.specs.Runs.{a_feed, a_withdraw}
 use Rattle.programs.specs.Scripts.{a_call, a_total, a_reading}
 use Rattle.programs.specs.Spelling.{Spelling, bytes_spelling, cards_spelling, word_texts, number_said, first_number, by_number, only, numbers_said}
 use Rattle.programs.specs.ScriptLines.{Item, patterns, a_book_call, rules_follow, weights, nodes, a_chart_line, first_of, one_number, offer_said, load_said, item_said, kind_said, words_say, line_said}
-use Rattle.programs.specs.ScriptMeans.{SaysNumber, SayNumbers, OneNumber, WordsSay}
+use Rattle.programs.specs.ScriptMeans.{SaysNumber, SayNumbers, OneNumber, WordsSay, first_words, BeginsUnknown}
 use Rattle.programs.proofs.ScriptLaw.{same_is}
 use Rattle.programs.proofs.ScriptCosts.{number_within}
-use Rattle.programs.specs.declared.script.fault.Cause.TheVariants.{OtherWords}
+use Rattle.programs.specs.declared.script.fault.Cause.TheVariants.{UnknownLine, OtherWords}
 use Rattle.programs.specs.declared.script.said.First.{First}
 use Rattle.programs.specs.declared.script.said.First.TheVariants.{Patterns, Offer, Load, Strike, Weights, Nodes, Feed, Withdraw, Total, Reading}
 
@@ -260,3 +260,63 @@ module _ {P E : Type 0} (S : Spelling P E) where
   pub none_law : (w : List ℕ) → (words 0 w ≡ []) ↔ (line_said S w ≡ Ok None)
   unfolding line_said
   none_law w = (λ e. ap (words_say S w) e, none_words w (words 0 w))
+
+-- Unknown first words
+
+word_mem : (name : List ℕ) (k : First) → Mem (word_of name k) (first_words name)
+word_mem name Patterns = inl refl
+word_mem name Offer = inr (inl refl)
+word_mem name Load = inr (inr (inl refl))
+word_mem name Strike = inr (inr (inr (inl refl)))
+word_mem name Weights = inr (inr (inr (inr (inl refl))))
+word_mem name Nodes = inr (inr (inr (inr (inr (inl refl)))))
+word_mem name Feed = inr (inr (inr (inr (inr (inr (inl refl))))))
+word_mem name Withdraw = inr (inr (inr (inr (inr (inr (inr (inl refl)))))))
+word_mem name Total = inr (inr (inr (inr (inr (inr (inr (inr (inl refl))))))))
+word_mem name Reading = inr (inr (inr (inr (inr (inr (inr (inr (inr (inl refl)))))))))
+
+mem_word : (name w : List ℕ) → Mem w (first_words name) → (k : First) × (w ≡ word_of name k)
+mem_word name w (inl e) = (Patterns, e)
+mem_word name w (inr (inl e)) = (Offer, e)
+mem_word name w (inr (inr (inl e))) = (Load, e)
+mem_word name w (inr (inr (inr (inl e)))) = (Strike, e)
+mem_word name w (inr (inr (inr (inr (inl e))))) = (Weights, e)
+mem_word name w (inr (inr (inr (inr (inr (inl e)))))) = (Nodes, e)
+mem_word name w (inr (inr (inr (inr (inr (inr (inl e))))))) = (Feed, e)
+mem_word name w (inr (inr (inr (inr (inr (inr (inr (inl e)))))))) = (Withdraw, e)
+mem_word name w (inr (inr (inr (inr (inr (inr (inr (inr (inl e))))))))) = (Total, e)
+mem_word name w (inr (inr (inr (inr (inr (inr (inr (inr (inr (inl e)))))))))) = (Reading, e)
+mem_word name w (inr (inr (inr (inr (inr (inr (inr (inr (inr (inr m)))))))))) = absurd m
+
+module _ {P E : Type 0} (S : Spelling P E) (apart : Apart S.name) (text : List ℕ) where
+  kind_none : (k : Option First) (us : List Piece) → kind_said S k text us ≡ Err UnknownLine → k ≡ None
+  kind_none None us e = refl
+  kind_none (Some f) us e = by_item (item_said S f text us) e
+    where
+      by_item : (o : Option (Item P E)) → ok_or (option_map Some o) OtherWords ≡ Err UnknownLine → Some f ≡ None
+      by_item None q = absurd cc
+      by_item (Some j) q = absurd cc
+
+  first_none : (w : List ℕ) → (Mem w (first_words S.name) → ⊥) → first_of S.name w ≡ None
+  first_none w n = by_first (first_of S.name w) refl (first_is S.name w)
+    where
+      by_first : (o : Option First) → first_of S.name w ≡ o → IfSome o (λ k. w ≡ word_of S.name k) → first_of S.name w ≡ None
+      by_first None e h = e
+      by_first (Some k) e h = absurd (n (subst (λ x. Mem x (first_words S.name)) (sym h) (word_mem S.name k)))
+
+  first_unknown : (w : List ℕ) → first_of S.name w ≡ None → Mem w (first_words S.name) → ⊥
+  first_unknown w e m =
+      let p = mem_word S.name w m in
+      let s : first_of S.name w ≡ Some p.0 = ap (first_of S.name) p.1 ∙ apart p.0 in
+      absurd cc
+
+  unknown_said : (ws : List Piece) → words_say S text ws ≡ Err UnknownLine → BeginsUnknown S.name ws
+  unknown_said [] e = absurd cc
+  unknown_said (v ∷ us) e = (v, (us, refl, first_unknown v.bytes (kind_none (first_of S.name v.bytes) us e)))
+
+  said_unknown : (ws : List Piece) → BeginsUnknown S.name ws → words_say S text ws ≡ Err UnknownLine
+  said_unknown ws (v, (us, e, n)) = ap (words_say S text) e ∙ ap (λ k. kind_said S k text us) (first_none v.bytes n)
+
+pub unknown_law : {P E : Type 0} (S : Spelling P E) → Apart S.name → (w : List ℕ) → BeginsUnknown S.name (words 0 w) ↔ (line_said S w ≡ Err UnknownLine)
+unfolding line_said
+unknown_law S apart w = (said_unknown S apart w (words 0 w), unknown_said S apart w (words 0 w))

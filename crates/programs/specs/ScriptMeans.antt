@@ -13,7 +13,7 @@ use Rattle.programs.specs.ScriptLines.{Item, patterns, a_book_call, rules_follow
 use Rattle.programs.specs.ScriptOutput.{Part, part, parts}
 use Rattle.programs.specs.Printed.{PrintMeans}
 use Rattle.programs.specs.declared.script.fault.Cause.{Cause}
-use Rattle.programs.specs.declared.script.fault.Cause.TheVariants.{OutOfPlace, NoEnd}
+use Rattle.programs.specs.declared.script.fault.Cause.TheVariants.{UnknownLine, OutOfPlace, NoEnd}
 
 -- Scripts
 
@@ -60,6 +60,14 @@ WordsSay S w ws (a_chart_line (a_call (a_feed e))) = (vs : List (List ℕ)) × (
 WordsSay S w ws (a_chart_line (a_call (a_withdraw k))) = (vs : List (List ℕ)) × (word_texts ws ≡ codes "withdraw" ∷ vs) × OneNumber 4294967295 vs k
 WordsSay S w ws (a_chart_line a_total) = word_texts ws ≡ codes "total" ∷ []
 WordsSay S w ws (a_chart_line a_reading) = word_texts ws ≡ codes "reading" ∷ []
+
+-- the words that a line can begin with
+abbrev pub first_words : List ℕ → List (List ℕ)
+first_words name = name ∷ (codes "offer" ∷ (codes "load" ∷ (codes "strike" ∷ (codes "weights" ∷ (codes "nodes" ∷ (codes "feed" ∷ (codes "withdraw" ∷ (codes "total" ∷ (codes "reading" ∷ [])))))))))
+
+-- a first word is there, and no line can begin with it
+abbrev pub BeginsUnknown : List ℕ → List Piece → Type 0
+BeginsUnknown name ws = (v : Piece) × ((vs : List Piece) × (ws ≡ v ∷ vs) × (Mem v.bytes (first_words name) → ⊥))
 
 -- none of these lines is end alone
 abbrev pub NoEndAmong : List (List ℕ) → Type 0
@@ -135,6 +143,8 @@ pub record PartMeans {P E : Type 0} (S : Spelling P E) (fits : P → E → Type 
   -- a line says just what its words say, and nothing exactly if it has none
   pub each_line : (w : List ℕ) (i : Item P E) → WordsSay S w (words 0 w) i ↔ Says S w i
   pub no_words : (w : List ℕ) → (words 0 w ≡ []) ↔ (line_said S w ≡ Ok None)
+  -- its first word is unknown exactly if no line can begin with it; any other line that says nothing has other words than it wants
+  pub unknown : (w : List ℕ) → BeginsUnknown S.name (words 0 w) ↔ (line_said S w ≡ Err UnknownLine)
   -- the script that is read is the one that the lines say, and they say no other
   pub script : (t : Script P E) → SayScript S ls t ↔ (read S n ls ≡ Ok t)
   -- a fault is that of a line that is wrong behind those before it, which say a script; or of a load without end
