@@ -14,7 +14,7 @@ use Rattle.text.proofs.Meaning.{line_means}
 use Rattle.book.specs.Offers.{book, refusal, same_rule, size_refusal}
 use Rattle.book.specs.Loads.{Load, taken, stopped, and_then, offer_line, end_of, first_place, load_lines, load}
 use Rattle.book.specs.Strikes.{all_but_last}
-use Rattle.book.specs.Runs.{Call, an_offer, a_load, a_strike, loaded, with_offer, after, held_after}
+use Rattle.book.specs.Runs.{Call, an_offer, a_load, a_strike, loaded, after, held_after}
 use Rattle.book.proofs.NoRules.{admitted_without_rules}
 use Rattle.book.proofs.Refused.{PastFour, past_sound, sized_admitted}
 use Rattle.programs.specs.Printed.{Cheap, AllCheap}
@@ -59,7 +59,7 @@ module _ (T : ℕ) where
   load_admitted is text a = lines_admitted is 0 _ a
 
   -- an offer
-  offer_admitted : (is : List Production) (p : Production) → p.cost ≤ 65535 → Admitted (book T is) → Admitted (book T (with_offer T is p))
+  offer_admitted : (is : List Production) (p : Production) → p.cost ≤ 65535 → Admitted (book T is) → Admitted (book T (cond (eqb (refusal T is p) 0) (is ++ (p ∷ [])) is))
   offer_admitted is p c a = (elim (eqb (refusal T is p) 0) as (λ b. eqb (refusal T is p) 0 ≡ b → Admitted (book T (cond b (is ++ (p ∷ [])) is))) [
     | true ↦ λ t. offered_admitted is p a c (eqb-true (refusal T is p) 0 t)
     | false ↦ λ f. a
