@@ -72,7 +72,7 @@ standing (refused n) t = take 65535 t
 abbrev pub answer_text : Saying → List ℕ
 answer_text a = saying_text a ++ (10 ∷ [])
 
--- what is printed for a line of the chart where the events es are held: S weights to a cell, and tables of m weights and n nodes
+-- what is printed for a line of the chart where the events es are held, with tables of m weights and n nodes
 abbrev pub line_text : {E : Type 0} → Book → (E → ℕ → Bool) → ℕ → ℕ → List E → ChartLine E → List ℕ
 line_text W fits m n es (a_call c) = answer_text (chart_answer (binarised W).symbols m (length es) c)
 line_text W fits m n es a_total = totals_words (trace_totals W fits es) ++ (10 ∷ [])
