@@ -1,4 +1,4 @@
--- The calls of a script up to a line.
+-- Words of private contracts: no promise to a caller rests on these. The calls of a script up to a line.
 use Rattle.std.specs.Prelude.{ℕ, Bool, List}
 use Rattle.grammar.specs.Productions.{Book}
 use Rattle.book.specs.Fits.{table_fits}

@@ -1,4 +1,4 @@
--- What the lines of a script say, as they were read.
+-- Words of private contracts: no promise to a caller rests on these. What the lines of a script say, as they were read.
 use Rattle.std.specs.Prelude.{map}
 use Rattle.book.specs.Runs.{Call, an_offer, a_load, a_strike}
 use Rattle.replay.specs.Calls.{chart_call_of}

@@ -1,4 +1,4 @@
--- What was read of a script, as its lines say it.
+-- Words of private contracts: no promise to a caller rests on these. What was read of a script, as its lines say it.
 use Rattle.std.specs.Prelude.{◌≡◌, ℕ, List, drop, Ok, Err, Result, option_map}
 use Rattle.programs.specs.ScriptLines.{Item, patterns, a_book_call, rules_follow, weights, nodes, a_chart_line, ReadSoFar, so_far}
 use Rattle.programs.specs.ScriptOutput.{malformed_line}
