@@ -1,7 +1,7 @@
 // What a book makes of a case.
 use crate::case::Case;
 use crate::form::form_lines;
-use anyhow::Context;
+use anyhow::{Context, bail};
 use book::alphabet::Bytes;
 use book::books::{ClosedBook, OpenBook};
 use cases::books::loaded;
@@ -14,7 +14,10 @@ use text::reader::rule_line;
 fn offers(heap: Global, book: &mut OpenBook<Bytes>, rules: &[&str]) -> anyhow::Result<String> {
     let mut out = String::new(heap);
     for rule in rules {
-        let line = rule_line(rule.as_bytes(), 0)?.context("a rule that is offered is missing")?;
+        let Ok(read) = rule_line(rule.as_bytes(), 0) else {
+            bail!("a rule that is offered is out of form");
+        };
+        let line = read.context("a rule that is offered is missing")?;
         match book.offer(line.head(), line.right(), line.cost()) {
             Ok(_) => writeln!(out, "taken {rule}")?,
             Err(fault) => writeln!(out, "refused {} {rule}", fault.number())?,
