@@ -19,23 +19,19 @@ impl fmt::Display for Case<'_> {
 }
 
 impl<'t> Case<'t> {
-    // The case of these lines.
-    pub(crate) fn of(heap: Global, lines: &[&'t str]) -> anyhow::Result<Case<'t>> {
-        let mut case = Case {
+    // A case without a line.
+    pub(crate) fn new(heap: Global) -> Case<'t> {
+        Case {
             name: "",
             patterns: 0,
             rules: String::new(heap),
             offers: Vec::new(heap),
             expected: String::new(heap),
-        };
-        for line in lines {
-            case.read(line)?;
         }
-        Ok(case)
     }
 
     // Takes in a line of the case.
-    fn read(&mut self, line: &'t str) -> anyhow::Result<()> {
+    pub(crate) fn read(&mut self, line: &'t str) -> anyhow::Result<()> {
         if let Some(name) = line.strip_prefix("case ") {
             self.name = name;
         } else if let Some(count) = line.strip_prefix("patterns ") {

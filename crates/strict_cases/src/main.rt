@@ -15,25 +15,32 @@ mod case;
 mod form;
 mod outcome;
 
+use anyhow::ensure;
 use case::Case;
 use cases::agreement::run_cases;
-use cases::blocks::blocks;
 use outcome::agrees;
 use std::alloc::Global;
-use std::fs;
+use std::{fs, mem};
 
-// The cases of these lines.
-fn stored<'t>(heap: Global, lines: &'t [&'t str]) -> anyhow::Result<Vec<Case<'t>>> {
-    blocks(heap, lines)?
-        .into_iter()
-        .map(|block| Case::of(heap, block))
-        .try_collect(heap)
+// The cases of a text, each up to a line end. Lines behind the last end make no case, and may not name one. The lines are read one
+// by one and not by `blocks`, which needs a list of all of them beside the cases.
+fn stored<'t>(heap: Global, text: &'t str) -> anyhow::Result<Vec<Case<'t>>> {
+    let mut list = Vec::new(heap);
+    let mut case = Case::new(heap);
+    for line in text.lines() {
+        if line == "end" {
+            list.push(mem::replace(&mut case, Case::new(heap)))?;
+        } else {
+            case.read(line)?;
+        }
+    }
+    ensure!(case.name.is_empty(), "the last case has no end");
+    Ok(list)
 }
 
 fn main(rt: HostRuntime) -> anyhow::Result<()> {
     let text = fs::read_to_string(&rt, "cases.txt")?;
-    let lines: Vec<&str> = text.lines().collect(rt.alloc())?;
-    let list = stored(rt.alloc(), &lines)?;
+    let list = stored(rt.alloc(), &text)?;
     run_cases(&rt, &list, |case| agrees(rt.alloc(), case))?;
     Ok(())
 }
