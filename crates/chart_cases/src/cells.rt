@@ -42,7 +42,7 @@ impl<'t> Filled<'t> {
         }
     }
 
-    // The names of the heads that the cell in a place has, or - for none.
+    // The names of the heads that the cell in a place has, from the first that is not empty on, or - for none.
     fn cell_text(&self, heap: Global, place: usize) -> Result<String, AllocError> {
         let names: Vec<&str> = self
             .heads
@@ -50,6 +50,7 @@ impl<'t> Filled<'t> {
             .zip(self.weights.iter().skip(place))
             .filter(|(_, yes)| **yes)
             .map(|(name, _)| *name)
+            .skip_while(|name| name.is_empty())
             .collect(heap)?;
         if names.is_empty() {
             return String::from_str(heap, "-");
