@@ -1,8 +1,8 @@
 // The case over card events.
+use crate::closed::closed;
 use crate::totals::totals_line;
 use book::alphabet::Cards;
 use book::kinds::{CardEvent, CardPattern};
-use cases::books::loaded;
 use cases::cards::{card_event, card_pattern};
 use std::alloc::Global;
 
@@ -44,9 +44,7 @@ impl<'t> CardCase<'t> {
 // The lines of the case of a text.
 pub(crate) fn card_lines(heap: Global, text: &str) -> anyhow::Result<String> {
     let case = CardCase::of(heap, text)?;
-    let book = loaded::<Cards>(&case.patterns, case.rules.as_bytes())?
-        .0
-        .close();
+    let book = closed::<Cards>(&case.patterns, &case.rules)?;
     let mut out = String::from_str(heap, "card events\n")?;
     for trace in &case.traces {
         let events: Vec<CardEvent> = trace.split(' ').map(card_event).try_collect(heap)?;

@@ -13,24 +13,20 @@ pub struct Case<'t> {
 }
 
 impl<'t> Case<'t> {
-    // The case of these lines.
-    pub(crate) fn of(heap: Global, lines: &[&'t str]) -> Result<Case<'t>, AllocError> {
-        let mut case = Case {
+    // A case without a line.
+    pub(crate) fn new(heap: Global) -> Case<'t> {
+        Case {
             name: "",
             heads: Vec::new(heap),
             patterns: "",
             rules: String::new(heap),
             tables: Vec::new(heap),
             totals: Vec::new(heap),
-        };
-        for line in lines {
-            case.read(heap, line)?;
         }
-        Ok(case)
     }
 
     // Takes in a line of the case.
-    fn read(&mut self, heap: Global, line: &'t str) -> Result<(), AllocError> {
+    pub(crate) fn read(&mut self, heap: Global, line: &'t str) -> Result<(), AllocError> {
         if let Some(name) = line.strip_prefix("case ") {
             self.name = name;
         } else if let Some(names) = line.strip_prefix("names ") {

@@ -1,11 +1,11 @@
 // What is printed of a case over bytes.
 use crate::case::Case;
 use crate::cells::Filled;
+use crate::closed::closed;
 use crate::totals::totals_line;
 use anyhow::Context;
 use book::alphabet::Bytes;
 use book::books::ClosedBook;
-use cases::books::loaded;
 use chart::chart::Chart;
 use programs::totals::{feed_all, room};
 use std::alloc::Global;
@@ -27,9 +27,7 @@ fn table(
 
 // The lines of a case.
 pub(crate) fn case_lines(heap: Global, case: &Case) -> anyhow::Result<String> {
-    let book = loaded::<Bytes>(case.patterns.as_bytes(), case.rules.as_bytes())?
-        .0
-        .close();
+    let book = closed::<Bytes>(case.patterns.as_bytes(), &case.rules)?;
     let mut out = format!(in heap; "{}\n", case.name)?;
     for trace in &case.tables {
         let lines = table(heap, &book, &case.heads, trace)?;

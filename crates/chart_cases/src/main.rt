@@ -14,22 +14,38 @@
 mod cards;
 mod case;
 mod cells;
+mod closed;
 mod grammars;
 mod totals;
 
+use anyhow::ensure;
 use cards::card_lines;
 use case::Case;
-use cases::blocks::blocks;
 use grammars::case_lines;
-use std::fs;
+use std::alloc::Global;
+use std::{fs, mem};
 
-// Prints each case of bytes.
+// The cases of a text, each up to a line end. Lines behind the last end make no case, and may not name one. The lines are read one
+// by one and not by `blocks`, which needs a list of all of them beside the cases.
+fn stored<'t>(heap: Global, text: &'t str) -> anyhow::Result<Vec<Case<'t>>> {
+    let mut list = Vec::new(heap);
+    let mut case = Case::new(heap);
+    for line in text.lines() {
+        if line == "end" {
+            list.push(mem::replace(&mut case, Case::new(heap)))?;
+        } else {
+            case.read(heap, line)?;
+        }
+    }
+    ensure!(case.name.is_empty(), "the last case has no end");
+    Ok(list)
+}
+
+// Prints each case of bytes, once all of them are read.
 fn print_grammars(rt: &HostRuntime) -> anyhow::Result<()> {
-    let heap = rt.alloc();
     let text = fs::read_to_string(rt, "grammars.txt")?;
-    let lines: Vec<&str> = text.lines().collect(heap)?;
-    for block in blocks(heap, &lines)? {
-        rt.print(case_lines(heap, &Case::of(heap, block)?)?)?;
+    for case in &stored(rt.alloc(), &text)? {
+        rt.print(case_lines(rt.alloc(), case)?)?;
     }
     Ok(())
 }
