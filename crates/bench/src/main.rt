@@ -1,7 +1,7 @@
 // Feeds a trace to a chart in each of the three weighings.
 // bench BOOK PATTERNS TRACE: a file of rule text, how many patterns there are, which are the letters from a on, and the trace, as
-// letters. Prints the numbers of symbols, of strict rules and of events, and for each weighing the seconds spent in the feeds and on
-// the total, by the clock, and the total.
+// letters. Prints the numbers of symbols, of strict rules and of events, and for each weighing the seconds spent in the feeds, by
+// the clock, and the total.
 // With no argument: twelve events over each stored book, and the totals alone, which are the same in every run.
 #![tactic(auto)]
 

@@ -1,13 +1,17 @@
-// A book is loaded, and the totals of a trace are worked out in each weighing.
-use anyhow::Context;
+// A book is loaded, and a trace fed to a chart of it in each weighing.
+use anyhow::{Context, bail};
 use book::alphabet::Bytes;
+use book::books::ClosedBook;
 use cases::books::loaded;
-use chart::fault::FeedFault;
+use chart::chart::Chart;
+use chart::totals::{explained, least_cost, readings};
 use programs::patterns::{LETTERS, PATTERNS};
-use programs::totals::{Tables, Verdict, room};
+use programs::totals::{Verdict, feed_all, room};
 use std::fmt::Display;
 use std::time::{Duration, Instant};
 use std::{fmt, fs};
+use weighing::kinds::{Count, LeastCost, YesNo};
+use weighing::weighing::Weighing;
 
 // What is measured: a file of rule text, the number of patterns, and the events, as letters.
 #[derive(Clone, Copy)]
@@ -17,7 +21,7 @@ pub struct Case<'t> {
     pub trace: &'t str,
 }
 
-// A total, and the time spent in the feeds and on it.
+// A total, and the time spent in the feeds before it.
 #[derive(Clone, Copy)]
 pub struct Timed<T> {
     pub spent: Duration,
@@ -54,35 +58,70 @@ impl Display for Figures {
     }
 }
 
-// A total, with the time that it takes.
-fn time<T: Drop, F: FnOnce() -> Result<T, FeedFault>>(
+// Feeds a trace to a chart. The time spent in the feeds alone.
+fn time<W: Weighing>(
     rt: &HostRuntime,
-    total: F,
-) -> anyhow::Result<Timed<T>>
-    requires { F.IsAlwaysCallable total }
-{
+    chart: &mut Chart<Bytes, W>,
+    trace: &[u8],
+) -> anyhow::Result<Duration> {
     let start = Instant::now(rt)?;
-    let total = total()?;
-    let spent = start.elapsed(rt)?;
+    feed_all(chart, trace)?;
+    Ok(start.elapsed(rt)?)
+}
+
+// Each total has a table of its own, which is given back before the next is made.
+
+// Whether there is a reading of a trace.
+fn yes_no(
+    rt: &HostRuntime,
+    book: &ClosedBook<Bytes>,
+    trace: &[u8],
+) -> anyhow::Result<Timed<Verdict>> {
+    let places = room(book, trace.len()).context("more than 256 events")?;
+    let mut weights = vec![in rt.alloc(); YesNo::zero(); places]?;
+    let mut chart: Chart<Bytes, YesNo> = Chart::cut(book, &mut weights);
+    let spent = time(rt, &mut chart, trace)?;
+    let total = Verdict(explained(&chart));
+    Ok(Timed { spent, total })
+}
+
+// How many readings of a trace there are.
+fn count(rt: &HostRuntime, book: &ClosedBook<Bytes>, trace: &[u8]) -> anyhow::Result<Timed<u32>> {
+    let places = room(book, trace.len()).context("more than 256 events")?;
+    let mut weights = vec![in rt.alloc(); Count::zero(); places]?;
+    let mut chart: Chart<Bytes, Count> = Chart::cut(book, &mut weights);
+    let spent = time(rt, &mut chart, trace)?;
+    let total = readings(&chart);
+    Ok(Timed { spent, total })
+}
+
+// What the cheapest reading of a trace costs.
+fn least(rt: &HostRuntime, book: &ClosedBook<Bytes>, trace: &[u8]) -> anyhow::Result<Timed<u32>> {
+    let places = room(book, trace.len()).context("more than 256 events")?;
+    let mut weights = vec![in rt.alloc(); LeastCost::zero(); places]?;
+    let mut chart: Chart<Bytes, LeastCost> = Chart::cut(book, &mut weights);
+    let spent = time(rt, &mut chart, trace)?;
+    let total = least_cost(&chart);
     Ok(Timed { spent, total })
 }
 
 // Loads the book of a case and feeds its trace in each weighing.
 pub(crate) fn measure(rt: &HostRuntime, case: &Case) -> anyhow::Result<Figures> {
-    let text = fs::read(rt, case.book)?;
+    let text = fs::read_to_string(rt, case.book)?;
     let patterns = PATTERNS[..LETTERS]
         .get(..case.patterns)
         .context("more than 26 patterns")?;
-    let book = loaded::<Bytes>(patterns, &text)?.0.close();
+    let Ok((open, _)) = loaded::<Bytes>(patterns, text.as_bytes()) else {
+        bail!("the rules are refused");
+    };
+    let book = open.close();
     let trace = case.trace.as_bytes();
-    let weights = room(&book, trace.len()).context("more than 256 events")?;
-    let mut tables = Tables::new(rt.alloc(), weights)?;
     Ok(Figures {
         symbols: book.symbols(),
         strict_rules: book.strict_count(),
         events: trace.len(),
-        yes_no: time(rt, || tables.verdict(&book, trace))?,
-        count: time(rt, || tables.count(&book, trace))?,
-        least: time(rt, || tables.least(&book, trace))?,
+        yes_no: yes_no(rt, &book, trace)?,
+        count: count(rt, &book, trace)?,
+        least: least(rt, &book, trace)?,
     })
 }
