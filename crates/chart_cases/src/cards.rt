@@ -1,4 +1,5 @@
 // The case over card events.
+use crate::case::push_line;
 use crate::closed::closed;
 use crate::totals::totals_line;
 use book::alphabet::Cards;
@@ -35,7 +36,7 @@ impl<'t> CardCase<'t> {
         } else if let Some(trace) = line.strip_prefix("totals ") {
             self.traces.push(trace)?;
         } else {
-            writeln!(self.rules, "{line}")?;
+            push_line(&mut self.rules, line)?;
         }
         Ok(())
     }

@@ -12,6 +12,12 @@ pub struct Case<'t> {
     pub totals: Vec<&'t str>,
 }
 
+// A line at the end of a text. By `push_str`, since a list can be almost all lines, which `writeln` takes half as long again to put down.
+pub(crate) fn push_line(text: &mut String, line: &str) -> Result<(), AllocError> {
+    text.push_str(line)?;
+    text.push_str("\n")
+}
+
 impl<'t> Case<'t> {
     // A case without a line.
     pub(crate) fn new(heap: Global) -> Case<'t> {
@@ -38,7 +44,7 @@ impl<'t> Case<'t> {
         } else if let Some(trace) = line.strip_prefix("totals ") {
             self.totals.push(trace)?;
         } else {
-            writeln!(self.rules, "{line}")?;
+            push_line(&mut self.rules, line)?;
         }
         Ok(())
     }

@@ -1,5 +1,5 @@
 // The stored cases.
-use std::alloc::Global;
+use std::alloc::{AllocError, Global};
 use std::fmt;
 
 // A case: its number of patterns, the rules to load, the rules to offer after them, and the lines that are expected.
@@ -16,6 +16,12 @@ impl fmt::Display for Case<'_> {
     fn fmt<W: fmt::Write>(&self, f: &mut fmt::Formatter<W>) -> fmt::Result {
         write!(f, "{}", self.name)
     }
+}
+
+// A line at the end of a text. By `push_str`, since a list can be almost all lines, which `writeln` takes half as long again to put down.
+fn push_line(text: &mut String, line: &str) -> Result<(), AllocError> {
+    text.push_str(line)?;
+    text.push_str("\n")
 }
 
 impl<'t> Case<'t> {
@@ -37,7 +43,7 @@ impl<'t> Case<'t> {
         } else if let Some(count) = line.strip_prefix("patterns ") {
             self.patterns = count.parse::<usize>()?;
         } else if line.starts_with("H") {
-            writeln!(self.rules, "{line}")?;
+            push_line(&mut self.rules, line)?;
         } else {
             self.expect(line)?;
         }
@@ -51,7 +57,7 @@ impl<'t> Case<'t> {
         {
             self.offers.push(rule)?;
         }
-        writeln!(self.expected, "{line}")?;
+        push_line(&mut self.expected, line)?;
         Ok(())
     }
 }
