@@ -2,6 +2,7 @@ pub mod Short
 pub mod Spelled
 pub mod Wording
 pub mod Nine
+pub mod Items
 pub mod Cutting
 pub mod Meaning
 pub mod Later

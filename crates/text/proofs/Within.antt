@@ -1,16 +1,22 @@
 -- Places lie within the text, and what is refused has one of the numbers 20 to 23.
-use Rattle.std.proofs.Common.{◌≡◌, ℕ, ◌+◌, ◌<◌, ◌≤◌, Bool, true, false, cond, ltb, List, [], ◌∷◌, length, get_or, drop, sym, refl, ap, ◌∙◌, subst, inl, inr, ⊎_elim, arith, length-append}
-use Rattle.std.proofs.lemmas.Bool.{both_ways, cond-true, lt-ltb}
+use Rattle.std.proofs.Common.{◌≡◌, ℕ, ◌+◌, ◌<◌, ◌≤◌, Bool, true, false, cond, ltb, List, [], ◌∷◌, length, get_or, drop, Some, None, Ok, Err, Option, Result, sym, refl, ap, ◌∙◌, subst, inl, inr, ⊎_elim, arith, length-append}
+use Rattle.std.proofs.lemmas.Bool.{both_ways, cases_lt, cond-true, lt-ltb}
+use Rattle.std.proofs.lemmas.List.{length-drop}
 use Rattle.grammar.specs.Lists.{Mem}
 use Rattle.grammar.proofs.Lists.{mem_right, those_mem}
 use Rattle.text.specs.Kinds.{Kind, arrow, blank, head, pattern, cost, unknown, kind, Spelled}
 use Rattle.text.specs.Numbers.{is_numeral, said_number}
-use Rattle.text.specs.Outcomes.{Refused, word_refused, too_short, fault, refusal_of, line, Means, OfDigits}
+use Rattle.text.specs.Faults.{line_fault_number, line_fault_place}
+use Rattle.text.specs.Outcomes.{Outcome, nothing, rule, fault, Refused, word_refused, too_short, refusal_of, line, Means, OfDigits, line_said, in_nine, Limits}
+use Rattle.text.specs.declared.fault.LineFault.{LineFault}
+use Rattle.text.specs.declared.rule_line.RuleLine.{RuleLine}
 use Rattle.text.specs.Words.{Piece, pieces, parts, some_byte, words, Cut}
 use Rattle.text.specs.Words.Cut.{last, next}
 use Rattle.text.proofs.Cutting.{cut_is}
 use Rattle.text.proofs.Meaning.{line_means}
+use Rattle.text.proofs.Items.{take_below}
 use Rattle.text.proofs.Spelled.{of_kind}
+use Rattle.text.proofs.Wording.{words_past}
 
 cut_inside : {p : ℕ → Bool} {at : ℕ} {bs : List ℕ} {ps : List Piece} → Cut p at bs ps → (q : Piece) → Mem q ps → q.place + length q.bytes ≤ at + length bs
 cut_inside (last at w h) q (inl e) = omega (arith, ap (λ (r : Piece). r.place + length r.bytes) e)
@@ -48,6 +54,30 @@ line_within end ws n at inside e = refused_within n at (subst (Means end ws) e (
         let k = refusal_range (kind w.bytes) in
         (k.0, omega (arith, k.1), inside w (subst (Mem w) (sym are) (mem_right w before (w ∷ after) (inl refl))))
     refused_within n at (too_short s b c) = (omega arith, omega arith, omega arith)
+
+-- so does a word of a text from a place on
+words_in_text : (text : List ℕ) (from : ℕ) (w : Piece) → Mem w (words from (drop from text)) → w.place ≤ length text
+words_in_text text from w m = ⊎_elim
+    (λ (l : from < length text). omega (arith, words_inside from (drop from text) w m, length-drop from text))
+    (λ (g : length text ≤ from). absurd (subst (Mem w) (words_past text from g) m))
+    (cases_lt from (length text))
+
+abbrev is_fault : Outcome → Bool
+is_fault (fault n at) = true
+is_fault o = false
+
+fault_same : (o : Outcome) (n at : ℕ) → fault n at ≡ in_nine o → o ≡ fault n at
+fault_same nothing n at e = absurd (both_ways true (ap is_fault e) refl)
+fault_same (rule p) n at e = absurd (both_ways true (ap is_fault e) refl)
+fault_same (fault m b) n at e = sym e
+
+-- a line's rule, or its refusal
+pub line_limits : (text : List ℕ) (from : ℕ) (r : Result (Option RuleLine) LineFault) → line_said r ≡ in_nine (line (length text) (words from (drop from text))) → Limits (length text) r
+line_limits text from (Ok None) e = tt
+line_limits text from (Ok (Some l)) e = (l.named, take_below l.items 64 l.len (omega arith) l.known, l.held)
+line_limits text from (Err f) e =
+    let ws = words from (drop from text) in
+    line_within (length text) ws (line_fault_number f) (line_fault_place f) (words_in_text text from) (fault_same (line (length text) ws) _ _ e)
 
 -- Numbers of any length
 

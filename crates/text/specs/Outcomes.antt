@@ -1,5 +1,5 @@
 -- What the words of a line give.
-use Rattle.std.specs.Prelude.{◌≡◌, ℕ, ◌+◌, ◌-◌, ◌<◌, ◌≤◌, Bool, true, false, cond, ◌⊎◌, List, [], ◌∷◌, ◌++◌, map, length, take, Some, None, Ok, Err, codes, decimal, Option, Result, nat_le, nat_lt}
+use Rattle.std.specs.Prelude.{◌≡◌, ℕ, ◌+◌, ◌-◌, ◌<◌, ◌≤◌, Bool, true, false, cond, ◌⊎◌, List, [], ◌∷◌, ◌++◌, map, length, take, Some, None, Ok, Err, codes, decimal, Option, Result, nat_le, nat_lt, slice_index}
 use Rattle.std.specs.Option.{option_map_or}
 use Rattle.grammar.specs.{Lists.Mem, Lists.each, Productions.Production}
 pub use Rattle.grammar.specs.Productions.{written}
@@ -161,6 +161,12 @@ abbrev pub line_said : Result (Option RuleLine) LineFault → Outcome
 line_said (Ok None) = nothing
 line_said (Ok (Some l)) = rule (production_said l)
 line_said (Err f) = fault_said f
+
+-- a rule's numbers are within their limits; a refusal has a number of 20 to 23, and its place lies within a text of that length
+abbrev pub Limits : ℕ → Result (Option RuleLine) LineFault → Type 0
+Limits end (Ok None) = Unit {0}
+Limits end (Ok (Some l)) = (l.head ≤ 31) × ((k : ℕ) → slice_index (take l.len l.items) k < 64) × (l.cost ≤ 65535)
+Limits end (Err f) = (20 ≤ line_fault_number f) × (line_fault_number f ≤ 23) × (line_fault_place f ≤ end)
 
 -- an outcome with its first nine items, which stand for nine and more: a book refuses both alike
 abbrev pub in_nine : Outcome → Outcome

@@ -1,5 +1,5 @@
 -- Stretches of a text: its lines and its words.
-use Rattle.std.specs.Prelude.{◌≡◌, ℕ, suc, ◌+◌, ◌<◌, ◌≤◌, min, Bool, true, false, cond, ◌||◌, List, [], ◌∷◌, ◌++◌, length, ◌==◌, ◌≢◌, slice_index}
+use Rattle.std.specs.Prelude.{◌≡◌, ℕ, suc, ◌+◌, ◌<◌, ◌≤◌, min, Bool, true, false, cond, ◌||◌, List, [], ◌∷◌, ◌++◌, length, take, drop, ◌==◌, ◌≢◌, slice_index}
 use Rattle.grammar.specs.Lists.{Mem, those, each}
 
 -- a stretch of a text, and the byte place where it begins
@@ -71,6 +71,16 @@ pub record CutInto (at : ℕ) (text : List ℕ) : Type 0 where
   pub words_are : Words at text (words at text)
   pub only_words : (ws : List Piece) → Words at text ws → ws ≡ words at text
   pub by_line : words at text ≡ each line_words (lines at text)
+
+-- w is the longest run of other bytes that begins at the first such byte from a place on
+pub record IsWord (text : List ℕ) (from at : ℕ) (w : List ℕ) : Type 0 where
+  pub later : from ≤ at
+  pub skipped : (k : ℕ) → from ≤ k → k < at → parts (slice_index text k) ≡ true
+  pub some : 0 < length w
+  pub part : w ≡ take (length w) (drop at text)
+  pub inside : at + length w ≤ length text
+  pub plain : (k : ℕ) → at ≤ k → k < at + length w → parts (slice_index text k) ≡ false
+  pub ended : at + length w < length text → parts (slice_index text (at + length w)) ≡ true
 
 -- e is the first line feed from a place on, or the end of the text where there is none
 pub record IsLineEnd (text : List ℕ) (from e : ℕ) : Type 0 where

@@ -1,5 +1,5 @@
 ghost use Rattle.std.specs.Prelude.{◌≡◌};
-ghost use Rattle.text.specs.Kinds.{kind, word_of, place_of, kind_of};
+ghost use Rattle.text.specs.Kinds.{kind, word_of, place_of, kind_of, Sound};
 
 use crate::digits::is_numeral;
 use crate::token::Token;
@@ -8,6 +8,7 @@ use crate::token::Token;
 pub fn classify(word: &[u8], at: usize) -> Token<'_>
     ensures word { word_of result ≡ word.now }
     ensures place { place_of result ≡ at }
+    ensures sound { Sound result }
     ensures is { kind_of result ≡ kind word.now }
 {
     match word {

@@ -1,7 +1,7 @@
 // Reads the words of a line part by part, as the law of a line has them: the head, the arrow, the right side, at most a cost.
-ghost use Rattle.std.specs.Prelude.{◌≡◌, [], ◌∷◌, length, take, drop};
+ghost use Rattle.std.specs.Prelude.{◌≡◌, ◌≤◌, [], ◌∷◌, length, take, drop};
 ghost use Rattle.text.specs.Kinds.{Sound};
-ghost use Rattle.text.specs.Outcomes.{rule, no_more, cost_part, item_part, right_part, arrow_part, line, production_said, said, line_said, in_nine, token_piece};
+ghost use Rattle.text.specs.Outcomes.{rule, no_more, cost_part, item_part, right_part, arrow_part, line, production_said, said, line_said, in_nine, token_piece, Limits};
 ghost use Rattle.text.specs.Turns.{words_left};
 ghost use Rattle.text.specs.Words.{words};
 
@@ -61,6 +61,7 @@ fn item_part(line: RuleLine, words: Words<'_>) -> Result<RuleLine, LineFault>
 
 // Behind the arrow, in a line that ends at a place: blank or an item.
 fn right_part(head: u8, words: Words<'_>, end: usize) -> Result<RuleLine, LineFault>
+    requires { head ≤ 31 }
     ensures { said result ≡ in_nine (right_part end head (words_left words.entry)) }
 {
     let mut words = words;
@@ -75,6 +76,7 @@ fn right_part(head: u8, words: Words<'_>, end: usize) -> Result<RuleLine, LineFa
 
 // Behind the head, in a line that ends at a place: the arrow.
 fn arrow_part(head: u8, words: Words<'_>, end: usize) -> Result<RuleLine, LineFault>
+    requires { head ≤ 31 }
     ensures { said result ≡ in_nine (arrow_part end head (words_left words.entry)) }
 {
     let mut words = words;
@@ -87,7 +89,8 @@ fn arrow_part(head: u8, words: Words<'_>, end: usize) -> Result<RuleLine, LineFa
 
 // The rule that the words from a place to the end of the text say, or none where there is no word.
 pub fn rule_line(text: &[u8], from: usize) -> Result<Option<RuleLine>, LineFault>
-    ensures { line_said result ≡ in_nine (line (length text.now) (words from (drop from text.now))) }
+    ensures limits { Limits (length text.now) result }
+    ensures means { line_said result ≡ in_nine (line (length text.now) (words from (drop from text.now))) }
 {
     let mut words = Words::of(text, from);
     let Some(token) = next_token(&mut words) else {

@@ -1,4 +1,4 @@
-ghost use Rattle.std.specs.Prelude.{◌≡◌, ◌≤◌, [], ◌∷◌, ◌++◌, length, take};
+ghost use Rattle.std.specs.Prelude.{◌≡◌, ℕ, ◌<◌, ◌≤◌, [], ◌∷◌, ◌++◌, length, take, slice_index};
 
 // A rule as a line says it: head h is h, pattern t is 32 + t. Nine items stand for nine or more.
 // The items are an array with a length, since the kit's vector of fixed capacity is not Copy and a rule line is.
@@ -11,11 +11,15 @@ pub struct RuleLine {
     cost: u16,
     ghost sized: { length items ≡ 9 },
     ghost short: { len ≤ 9 },
+    ghost named: { head ≤ 31 },
+    ghost known: { (k : ℕ) → slice_index items k < 64 },
+    ghost held: { cost ≤ 65535 },
 }
 
 impl RuleLine {
     // A head, with no items and cost 0.
     pub(crate) fn of(head: u8) -> RuleLine
+        requires { head ≤ 31 }
         ensures head { result.head ≡ head }
         ensures right { take result.len result.items ≡ [] }
         ensures cost { result.cost ≡ 0 }
@@ -49,6 +53,7 @@ impl RuleLine {
 
     // One item more at the end; the tenth and further ones are dropped.
     pub(crate) fn with_item(self, item: u8) -> RuleLine
+        requires { item < 64 }
         ensures head { result.head ≡ self.head }
         ensures right { take result.len result.items ≡ take 9 (take self.len self.items ++ (item ∷ [])) }
         ensures cost { result.cost ≡ self.cost }

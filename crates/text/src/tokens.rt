@@ -1,5 +1,5 @@
 // What a token may stand for in a line.
-ghost use Rattle.std.specs.Prelude.{◌≡◌, ◌<◌, ◌≤◌, true, cond, [], ◌∷◌, length, drop, MatchOption, nat_lt};
+ghost use Rattle.std.specs.Prelude.{◌≡◌, ◌<◌, ◌≤◌, true, cond, [], ◌∷◌, length, drop, IfSome, MatchOption, nat_lt};
 ghost use Rattle.std.specs.List.{list_all};
 ghost use Rattle.text.specs.Kinds.{place_of, kind_of, Sound};
 ghost use Rattle.text.specs.Numbers.{said_number, is_digit};
@@ -77,7 +77,8 @@ pub(crate) fn is_blank(token: Token<'_>) -> bool
 // The head that a word names, within its limit.
 pub(crate) fn head_of(token: Token<'_>) -> Option<u8>
     requires { Sound token }
-    ensures { result ≡ head_of (kind_of token.entry) }
+    ensures is { result ≡ head_of (kind_of token.entry) }
+    ensures low { IfSome result (λ h. h ≤ 31) }
 {
     match token {
         Token::Head(word, _) => lettered_number(word, SYMBOLS).map(|n| n as u8),
@@ -88,7 +89,8 @@ pub(crate) fn head_of(token: Token<'_>) -> Option<u8>
 // The item that a word names, within its limit: head h is h, pattern t is 32 + t.
 pub(crate) fn item_of(token: Token<'_>) -> Option<u8>
     requires { Sound token }
-    ensures { result ≡ item_of (kind_of token.entry) }
+    ensures is { result ≡ item_of (kind_of token.entry) }
+    ensures low { IfSome result (λ i. i < 64) }
 {
     match token {
         Token::Head(word, _) => lettered_number(word, SYMBOLS).map(|n| n as u8),

@@ -1,7 +1,7 @@
 ghost use Rattle.std.specs.Prelude.{◌≡◌, ℕ, ◌+◌, ◌-◌, ◌<◌, ◌≤◌, true, false, not, [], ◌∷◌, length, drop, MatchOption, IfSome, slice_index};
 ghost use Rattle.std.specs.List.{prefix_len};
 ghost use Rattle.std.specs.Iterator.{at_most, YieldsFirstBy};
-ghost use Rattle.text.specs.Words.{ends_line, parts, words, IsLineEnd};
+ghost use Rattle.text.specs.Words.{ends_line, parts, words, IsWord, IsLineEnd};
 ghost use Rattle.text.specs.Turns.{piece_of, words_left};
 
 // A word and its byte place in the text.
@@ -102,6 +102,7 @@ fn word_end(text: &[u8], from: usize) -> usize
 
 // The first word from a place on.
 pub fn next_word(text: &[u8], from: usize) -> Option<Word<'_>>
+    ensures found { MatchOption result ((k : ℕ) → from ≤ k → k < length text.now → parts (slice_index text.now k) ≡ true) (λ w. IsWord text.now from w.place w.bytes.now) }
     ensures is { MatchOption result (words from (drop from text.now) ≡ []) (λ w. words from (drop from text.now) ≡ piece_of w ∷ words (w.place + length w.bytes.now) (drop (w.place + length w.bytes.now) text.now)) }
     ensures past { IfSome result (λ w. (from < w.place + length w.bytes.now) × (w.place + length w.bytes.now ≤ length text.now)) }
 {

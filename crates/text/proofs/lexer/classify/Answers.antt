@@ -19,40 +19,41 @@ looks w (inr (inr (inr (inl (d, t, e))))) = inr (inr (omega (arith, ap length e)
 looks w (inr (inr (inr (inr (d, t, e))))) = inr (inr (omega (arith, ap length e), ap is_numeral (rest_of w d 35 e) ∙ t, inr (inr (ap (λ v. get_or v 0 0) e))))
 
 -- what the word is follows from how it is spelled
-pub returns-in-45-clause-is : goal.returns-in-45-clause-is
-returns-in-45-clause-is c =
+pub returns-in-45 : goal.returns-in-45
+returns-in-45 c =
     let w = c.args.word in
     let k : kind w.now ≡ arrow = sound_kind (Arrow w c.args.at) (of_two w.now 45 62 (search rules) (search rules) (search rules)) in
-    cc
+    record { word = refl; place = refl; sound = cc; is = cc }
 
-pub returns-in-blank-clause-is : goal.returns-in-blank-clause-is
-returns-in-blank-clause-is c =
+pub returns-in-blank : goal.returns-in-blank
+returns-in-blank c =
     let w = c.args.word in
     let k : kind w.now ≡ blank = sound_kind (Blank w c.args.at) (of_five w.now 98 108 97 110 107 (search rules) (search rules) (search rules) (search rules) (search rules) (search rules)) in
-    cc
+    record { word = refl; place = refl; sound = cc; is = cc }
 
-pub returns-in-72-clause-is : goal.returns-in-72-clause-is
-returns-in-72-clause-is c =
+pub returns-in-72 : goal.returns-in-72
+returns-in-72 c =
     let w = c.args.word in
     let h : get_or w.now 0 0 ≡ 72 = grind arith in
     let k : kind w.now ≡ head (said_number (drop 1 w.now)) = sound_kind (Head w c.args.at) (lettered w.now 72 (omega arith) h (sym c.if-is_numeral-2.ensures)) in
-    cc
+    record { word = refl; place = refl; sound = cc; is = cc }
 
-pub returns-in-80-clause-is : goal.returns-in-80-clause-is
-returns-in-80-clause-is c =
+pub returns-in-80 : goal.returns-in-80
+returns-in-80 c =
     let w = c.args.word in
     let h : get_or w.now 0 0 ≡ 80 = grind arith in
     let k : kind w.now ≡ pattern (said_number (drop 1 w.now)) = sound_kind (Pattern w c.args.at) (lettered w.now 80 (omega arith) h (sym c.if-is_numeral.ensures)) in
-    cc
+    record { word = refl; place = refl; sound = cc; is = cc }
 
-pub returns-in-35-clause-is : goal.returns-in-35-clause-is
-returns-in-35-clause-is c =
+pub returns-in-35 : goal.returns-in-35
+returns-in-35 c =
     let w = c.args.word in
     let h : get_or w.now 0 0 ≡ 35 = grind arith in
     let k : kind w.now ≡ cost (said_number (drop 1 w.now)) = sound_kind (Cost w c.args.at) (lettered w.now 35 (omega arith) h (sym c.if-is_numeral-3.ensures)) in
-    cc
+    record { word = refl; place = refl; sound = cc; is = cc }
 
 pub returns-in_default : goal.returns-in_default
 returns-in_default c =
     let no : Known c.args.word.now → ⊥ = λ k. (let l : Looks c.args.word.now = looks c.args.word.now k in grind arith) in
-    record { word = refl; place = refl; is = sym (sound_kind (Unknown c.args.word c.args.at) no) }
+    let k = sound_kind (Unknown c.args.word c.args.at) no in
+    record { word = refl; place = refl; sound = k; is = sym k }

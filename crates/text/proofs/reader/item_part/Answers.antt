@@ -14,7 +14,7 @@ loop-token-preserved c =
       c.with_item-line.ensures.cost ∙ c.loop-token.invariant.0,
       ap (λ h. in_nine (item_part h (take m.len m.items) rest)) c.with_item-line.ensures.head
           ∙ item_step l.head (take l.len l.items) (take m.len m.items) c.in-Some-item_of.item (token_piece t) (words_left c.loop-token.words) rest
-          c.in-Some.ensures.0 (c.in-Some-item_of.ensures ∙ ap item_of (sym c.in-Some.ensures.1)) c.with_item-line.ensures.right
+          c.in-Some.ensures.0 (c.in-Some-item_of.ensures.is ∙ ap item_of (sym c.in-Some.ensures.1)) c.with_item-line.ensures.right
           ∙ c.loop-token.invariant.1,
     )
 
@@ -24,7 +24,7 @@ returns-in-None c =
     let t = c.in-Some.token in
     let few : length (take l.len l.items) ≤ 9 = omega (arith, length-take l.len l.items, l.sized, l.short) in
     c.cost_word.ensures ∙ ap (cost_part l.head (take l.len l.items)) (sym c.in-Some.ensures.0)
-    ∙ items_stop l.head (take l.len l.items) (token_piece t) (words_left c.loop-token.words) (words_left c.next_token.new.words) few c.in-Some.ensures.0 (c.in-None.ensures ∙ ap item_of (sym c.in-Some.ensures.1))
+    ∙ items_stop l.head (take l.len l.items) (token_piece t) (words_left c.loop-token.words) (words_left c.next_token.new.words) few c.in-Some.ensures.0 (c.in-None.ensures.is ∙ ap item_of (sym c.in-Some.ensures.1))
     ∙ c.loop-token.invariant.1
 
 pub returns : goal.returns
