@@ -44,6 +44,26 @@ module _ {V : Type 0} (M : Ops V) (W : Book) where
   pub empty_weight : {E : Type 0} (fits : E → ℕ → Bool) (f : ℕ → V) → NullableWeights M W f → (x : ℕ) (v : V) → v ≡ f x → x ≡ 0 → v ≡ total_of W M fits []
   empty_weight fits f h x v e z = e ∙ ap f z ∙ h 0 (omega arith)
 
+module _ (W : Book) (S : Sound W) where
+  -- a symbol that is not nullable comes in in no round
+  none_brings : (k x : ℕ) → nullable (binarised W) x ≡ false → nullable_after (binarised W) k x ≡ false
+  unfolding nullable
+  none_brings k x never = elim (cases_Bool (nullable_after (binarised W) k x)) [ inl t ↦ absurd (both_ways _ never (held_last (binarised W) (binarised_bounded W S) k x t)) | inr f ↦ f ]
+
+  -- what is so of a symbol after some rounds is so after more
+  pub settled_on : (k m x : ℕ) → k ≤ m → nullable_after (binarised W) k x ≡ nullable (binarised W) x → nullable_after (binarised W) m x ≡ nullable (binarised W) x
+  settled_on k m x l e = elim (cases_Bool (nullable (binarised W) x)) [
+    | inl t ↦ held_on (binarised W) (binarised_bounded W S) k m x l (e ∙ t) ∙ sym t
+    | inr f ↦ none_brings m x f ∙ sym f
+  ]
+
+  -- a symbol that nothing brings in is settled at once, another after the round that brings it in
+  pub settled_none : (k x : ℕ) → BroughtIn (binarised W) x None → nullable_after (binarised W) k x ≡ nullable (binarised W) x
+  settled_none k x never = none_brings k x never ∙ sym never
+
+  pub settled_some : (k x : ℕ) (b : Brought) → BroughtIn (binarised W) x (Some b) → b.round < k → nullable_after (binarised W) k x ≡ nullable (binarised W) x
+  settled_some k x b h l = held_on (binarised W) (binarised_bounded W S) (suc b.round) k x l h.1.1 ∙ sym h.0
+
 module _ {V : Type 0} (M : Ops V) (L : Semiring M) (W : Book) (S : Sound W) where
   -- the round passes a symbol that it does not bring in
   round_past : (k s : ℕ) (f : ℕ → V) → nullable_after (binarised W) (suc k) s ≡ nullable_after (binarised W) k s → AmidRound M W k s f → AmidRound M W k (s + 1) f
@@ -54,12 +74,7 @@ module _ {V : Type 0} (M : Ops V) (L : Semiring M) (W : Book) (S : Sound W) wher
     | inr n ↦ h x l ∙ ap (λ b. after M W (cond b (suc k) k) x) (next_same x s n)
   ]
 
-  -- which symbols a round does not bring in: those that none brings in
-  none_brings : (k x : ℕ) → nullable (binarised W) x ≡ false → nullable_after (binarised W) k x ≡ false
-  unfolding nullable
-  none_brings k x never = elim (cases_Bool (nullable_after (binarised W) k x)) [ inl t ↦ absurd (both_ways _ never (held_last (binarised W) (binarised_bounded W S) k x t)) | inr f ↦ f ]
-
-  -- and those that another brings in
+  -- which symbols a round does not bring in, but for those that none brings in: those that another brings in
   other_brings : (k x : ℕ) (b : Brought) → Brings (binarised W) x b → (b.round ≡ k → ⊥) → nullable_after (binarised W) (suc k) x ≡ nullable_after (binarised W) k x
   other_brings k x b h ne = elim (cases_lt b.round k) [
     | inl l ↦ on (suc k) (omega arith) ∙ sym (on k l)
@@ -73,7 +88,7 @@ module _ {V : Type 0} (M : Ops V) (L : Semiring M) (W : Book) (S : Sound W) wher
       off m g = elim (cases_Bool (nullable_after (binarised W) m x)) [ inl t ↦ absurd (both_ways _ h.0 (held_on (binarised W) (binarised_bounded W S) m b.round x g t)) | inr f ↦ f ]
 
   round_none : (k s : ℕ) (f : ℕ → V) → BroughtIn (binarised W) s None → AmidRound M W k s f → AmidRound M W k (s + 1) f
-  round_none k s f never = round_past k s f (none_brings (suc k) s never ∙ sym (none_brings k s never))
+  round_none k s f never = round_past k s f (none_brings W S (suc k) s never ∙ sym (none_brings W S k s never))
 
   round_other : (k s : ℕ) (f : ℕ → V) (b : Brought) → BroughtIn (binarised W) s (Some b) → (b.round ≡ k → ⊥) → AmidRound M W k s f → AmidRound M W k (s + 1) f
   round_other k s f b h ne = round_past k s f (other_brings k s b h.1 ne)
@@ -113,13 +128,9 @@ module _ {V : Type 0} (M : Ops V) (L : Semiring M) (W : Book) (S : Sound W) wher
       new : v ≡ after M W (suc k) s
       new = weighs ∙ made ∙ sym (cond-true _ (blank_weight M W s) M.zero (subst (λ m. nullable_after (binarised W) (suc m) s ≡ true) e h.1.1))
 
-  -- as many rounds as there are symbols find all
-  pub rounds_all : (k : ℕ) (f : ℕ → V) → (binarised W).symbols ≤ k → WeightsAfter M W k f → NullableWeights M W f
-  unfolding nullable
-  rounds_all k f m h x l = h x l ∙ ap (λ b. cond b (blank_weight M W x) M.zero) (elim (cases_Bool (nullable_after (binarised W) (binarised W).symbols x)) [
-    | inl t ↦ held_on (binarised W) (binarised_bounded W S) (binarised W).symbols k x m t ∙ sym t
-    | inr t ↦ none_brings k x t ∙ sym t
-  ])
+  -- rounds after which all symbols are settled find all
+  pub rounds_all : (k : ℕ) (f : ℕ → V) → ((x : ℕ) → x < 128 → nullable_after (binarised W) k x ≡ nullable (binarised W) x) → WeightsAfter M W k f → NullableWeights M W f
+  rounds_all k f settled h x l = h x l ∙ ap (λ b. cond b (blank_weight M W x) M.zero) (settled x l)
 
 -- a turn of round k, at the symbol s, by what the table says of it
 module _ {V T : Type 0} (M : Ops V) (L : Semiring M) (W : Book) (S : Sound W) (item : T → ℕ → V) (k s : ℕ) (was is : T) (amid : AmidRound M W k s (item was)) where

@@ -1,5 +1,7 @@
 // The weights of binarised rules, and of the chosen derivations of nothing, worked out round by round.
-ghost use Rattle.std.specs.Prelude.{◌≡◌, suc};
+ghost use Rattle.std.specs.Prelude.{◌≡◌, ℕ, suc, ◌<◌, ◌≤◌};
+ghost use Rattle.grammar.specs.Binarise.{binarised};
+ghost use Rattle.grammar.specs.Nullable.{nullable_after, nullable};
 ghost use Rattle.grammar.specs.Weights.{binarised_weight};
 ghost use Rattle.conversion.specs.Views.{right_side_of};
 ghost use Rattle.chart.specs.Weights.{rules_book, NullableWeights};
@@ -62,13 +64,29 @@ fn round<W: Weighing>(bank: &mut W::Values, converted: &Converted, round: u8)
     }
 }
 
+// How many rounds bring symbols in: after so many no nullable symbol is missing, so that a feed need not make the others.
+fn rounds(converted: &Converted) -> usize
+    ensures all { (x : ℕ) → x < 128 → nullable_after (binarised (rules_book converted.now.rules)) result x ≡ nullable (binarised (rules_book converted.now.rules)) x }
+    ensures few { result ≤ 256 }
+{
+    let mut rounds = 0;
+    for symbol in 0..128 {
+        if let Some(by) = converted.brought(symbol) {
+            if by.round as usize >= rounds {
+                rounds = by.round as usize + 1;
+            }
+        }
+    }
+    rounds
+}
+
 // The weight of the chosen derivation of nothing for each nullable symbol, and zero for the others.
 pub(crate) fn nullable_weights<W: Weighing>(converted: &Converted) -> W::Values
     ensures { NullableWeights W.Weighing.ops (rules_book converted.now.rules) (W.Values.Bank.item result) }
 {
     let mut bank = W::Values::all(W::zero());
-    for at in 0..128 {
-        round::<W>(&mut bank, converted, at);
+    for at in 0..rounds(converted) {
+        round::<W>(&mut bank, converted, at as u8);
     }
     bank
 }

@@ -86,7 +86,9 @@ impl Weighing for Count {
     }
 
     fn times(a: Capped, b: Capped) -> Capped {
-        Capped::of(a.value().saturating_mul(b.value()))
+        // in 64 bits, where no product of two numbers of 32 wraps: one multiplication, and the feeds of counts spend most of their time on it
+        let product = u64::from(a.value()) * u64::from(b.value());
+        Capped::of(product.min(u64::from(u32::MAX)) as u32)
     }
 
     fn weight(_cost: u16) -> Capped {
