@@ -65,7 +65,9 @@ impl<'t, 'p, A: Alphabet, W: Weighing> Column<'t, 'p, A, W> {
         add::<W>(weights, symbols, cell, symbol, sum);
     }
 
-    // Adds to the cell of each start before the middle what the pairs of the right part come to.
+    // Adds to the cell of each start before the middle what the pairs of the right part come to. It stays a function of its own in what is
+    // built, so that its loops come out the same, and as short, in each program: most of a long trace's time is spent in them.
+    #[inline(never)]
     fn add_starts(&mut self, pairs: &[Pair<W::Value>], middle: usize)
         requires part { middle < self.old.end }
         requires within { PairsWithin self.old.symbols pairs.now }
