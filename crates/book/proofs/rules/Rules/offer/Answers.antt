@@ -76,14 +76,14 @@ restored b rows a e = λ i. record {
 pub check_size-requires-clause-sound : goal.check_size-requires-clause-sound
 check_size-requires-clause-sound c t =
     let b = c.args.self.now in
-    let k = passed b c.args.head c.args.items.now c.args.cost c.in_ok-rule.rule c.new.result c.new.ensures c.in_ok-rule.ensures.ok_part c.if-head-ge-HEADS.false c.if-some_unknown.ensures
+    let k = passed b c.args.head c.args.items.now c.args.cost c.in_ok-rule.rule c.new.result c.new.ensures c.in_ok-rule.ensures.ok_part (omega (arith, c.if-head-ge-HEADS.false)) c.if-some_unknown.ensures
     c.deref.result.now c.deref.ensures.0 c.if-some_same.ensures in
     sound_pushed b c.args.head c.args.items.now c.args.cost c.in_ok-rule.rule c.deref-2.result.now k.0 (c.deref-2.ensures.0 ∙ c.push.ensures.items) k.1 (omega arith) (omega (arith, c.len-at.ensures.value)) t
 
 pub returns-then-at-ge-RULES : goal.returns-then-at-ge-RULES
 returns-then-at-ge-RULES c =
     let b = c.args.self.now in
-    let k = passed b c.args.head c.args.items.now c.args.cost c.in_ok-rule.rule c.new.result c.new.ensures c.in_ok-rule.ensures.ok_part c.if-head-ge-HEADS.false c.if-some_unknown.ensures
+    let k = passed b c.args.head c.args.items.now c.args.cost c.in_ok-rule.rule c.new.result c.new.ensures c.in_ok-rule.ensures.ok_part (omega (arith, c.if-head-ge-HEADS.false)) c.if-some_unknown.ensures
     c.deref.result.now c.deref.ensures.0 c.if-some_same.ensures in
     record { says = (meets_five b.patterns (held b) (written c.args.head c.args.items.now c.args.cost) k.1 (omega (arith, many b, c.len-at.ensures.value)), refl); over = refl }
 
@@ -92,7 +92,7 @@ returns-in-Err c =
     let b = c.args.self.now in
     let row = c.in_ok-rule.rule in
     let rows = c.deref-2.result.now in
-    let k = passed b c.args.head c.args.items.now c.args.cost c.in_ok-rule.rule c.new.result c.new.ensures c.in_ok-rule.ensures.ok_part c.if-head-ge-HEADS.false c.if-some_unknown.ensures
+    let k = passed b c.args.head c.args.items.now c.args.cost c.in_ok-rule.rule c.new.result c.new.ensures c.in_ok-rule.ensures.ok_part (omega (arith, c.if-head-ge-HEADS.false)) c.if-some_unknown.ensures
     c.deref.result.now c.deref.ensures.0 c.if-some_same.ensures in
     let m = meets b c.args.head c.args.items.now c.args.cost row rows k.0 (c.deref-2.ensures.0 ∙ c.push.ensures.items) k.1 (omega (arith, c.len-at.ensures.value)) in
     let back : c.pop.new.self.items ≡ b.rows.items = popped b.rows.items c.push.new.self.items c.pop.new.self.items row c.push.ensures.items c.pop.ensures.rest in
@@ -103,7 +103,7 @@ invariant_of-self-in_default c =
     let b = c.args.self.now in
     let row = c.in_ok-rule.rule in
     let rows = c.deref-2.result.now in
-    let k = passed b c.args.head c.args.items.now c.args.cost c.in_ok-rule.rule c.new.result c.new.ensures c.in_ok-rule.ensures.ok_part c.if-head-ge-HEADS.false c.if-some_unknown.ensures
+    let k = passed b c.args.head c.args.items.now c.args.cost c.in_ok-rule.rule c.new.result c.new.ensures c.in_ok-rule.ensures.ok_part (omega (arith, c.if-head-ge-HEADS.false)) c.if-some_unknown.ensures
     c.deref.result.now c.deref.ensures.0 c.if-some_same.ensures in
     let sound = sound_pushed b c.args.head c.args.items.now c.args.cost row rows k.0 (c.deref-2.ensures.0 ∙ c.push.ensures.items) k.1 (omega arith) (omega (arith, c.len-at.ensures.value)) in
     record { admitted = ∣ subst (λ l. Admitted (rows_book l b.patterns)) c.deref-2.ensures.0 (sized_admitted (rows_book rows b.patterns) sound c.in_default.ensures) ∣₁ }
@@ -113,7 +113,7 @@ returns c =
     let b = c.args.self.now in
     let row = c.in_ok-rule.rule in
     let rows = c.deref-2.result.now in
-    let k = passed b c.args.head c.args.items.now c.args.cost c.in_ok-rule.rule c.new.result c.new.ensures c.in_ok-rule.ensures.ok_part c.if-head-ge-HEADS.false c.if-some_unknown.ensures
+    let k = passed b c.args.head c.args.items.now c.args.cost c.in_ok-rule.rule c.new.result c.new.ensures c.in_ok-rule.ensures.ok_part (omega (arith, c.if-head-ge-HEADS.false)) c.if-some_unknown.ensures
     c.deref.result.now c.deref.ensures.0 c.if-some_same.ensures in
     let m = meets b c.args.head c.args.items.now c.args.cost row rows k.0 (c.deref-2.ensures.0 ∙ c.push.ensures.items) k.1 (omega (arith, c.len-at.ensures.value)) in
     record {
