@@ -38,10 +38,6 @@ impl<'t> Line<'t> {
     pub fn rule(self) -> Result<Option<RuleLine>, LineFault>
         ensures { line_said result ≡ in_nine (outcome_of self.entry) }
     {
-        // a text may have many empty lines: they end here
-        if self.from >= self.text.len() {
-            return Ok(None);
-        }
         rule_line(self.text, self.from)
     }
 }
