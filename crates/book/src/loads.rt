@@ -25,8 +25,8 @@ fn first_place(line: Line<'_>) -> usize
 }
 
 impl Rules {
-    // Offers the rule of one line: whether the line has one.
-    fn load_line(&mut self, line: Line<'_>) -> Result<bool, LoadFault>
+    // Offers the rule that the words of a line say: whether they say one.
+    fn load_words(&mut self, line: Line<'_>) -> Result<bool, LoadFault>
         ensures is { (n : ℕ) → line_is n (held self.new) result ≡ offer_line self.old.patterns (held self.old) n (first_place (words_of line.entry)) (outcome_of line.entry) }
         ensures over { self.new.patterns ≡ self.old.patterns }
     {
@@ -37,6 +37,18 @@ impl Rules {
         match self.offer(rule.head(), rule.right(), rule.cost()) {
             Ok(_) => Ok(true),
             Err(_) => Err(LoadFault::Refused(first_place(line))),
+        }
+    }
+
+    // Offers the rule of one line: whether the line has one. An empty line is not asked for its words, since a text may have many.
+    fn load_line(&mut self, line: Line<'_>) -> Result<bool, LoadFault>
+        ensures is { (n : ℕ) → line_is n (held self.new) result ≡ offer_line self.old.patterns (held self.old) n (first_place (words_of line.entry)) (outcome_of line.entry) }
+        ensures over { self.new.patterns ≡ self.old.patterns }
+    {
+        if line.from >= line.text.len() {
+            Ok(false)
+        } else {
+            self.load_words(line)
         }
     }
 
